@@ -1,0 +1,86 @@
+// Hex characters, upper case only: what a character says, a digit's character, and bytes and words by their characters.
+
+ghost use mathlib.Core.Path.{_≡_};
+ghost use Prim.Native.Nat.{_+_, _%_, _<_};
+ghost use lib.ListN.{length};
+ghost use Rattle.buffer.specs.Put.{Room, Put};
+ghost use Rattle.hex.specs.Hex.{isHex, digitOf, charOf, byteOf, byteAt, wordAt, allHex, pairOf};
+
+// Whether a character is hex.
+pub fn is_hex(c: u8) -> bool
+    ensures { λ r. ⌜ r ≡ isHex c ⌝ }
+{
+    ((48 <= c) & (c <= 57)) | ((65 <= c) & (c <= 70))
+}
+
+// The digit that a character says, or 16 where it says none.
+pub fn digit(c: u8) -> u8
+    ensures { λ r. ⌜ r ≡ digitOf c ⌝ }
+{
+    if c < 48 {
+        return 16;
+    }
+    if c <= 57 {
+        return c - 48;
+    }
+    if c < 65 {
+        return 16;
+    }
+    if c <= 70 {
+        return c - 55;
+    }
+    16
+}
+
+// The character of a digit; of a larger number, that of its last digit.
+pub fn char_of(d: u8) -> u8
+    ensures { λ r. ⌜ r ≡ charOf (d % 16) ⌝ }
+{
+    let low = d % 16;
+    if low < 10 { 48 + low } else { 55 + low }
+}
+
+// The byte of two characters, the high digit first.
+pub fn byte_of(high: u8, low: u8) -> u8
+    ensures { λ r. ⌜ r ≡ byteOf high low ⌝ }
+{
+    digit(high) % 16 * 16 + digit(low) % 16
+}
+
+// The byte whose characters begin at a place.
+pub fn byte_at(s: &[u8], at: usize) -> u8
+    requires { ⌜ at + 1 < length (now s) ⌝ }
+    ensures { λ r. ⌜ r ≡ byteAt (now (s .entry)) at ⌝ }
+{
+    byte_of(s[at], s[at + 1])
+}
+
+// The word whose characters begin at a place.
+pub fn word_at(s: &[u8], at: usize) -> u16
+    requires { ⌜ at + 3 < length (now s) ⌝ }
+    ensures { λ r. ⌜ r ≡ wordAt (now (s .entry)) at ⌝ }
+{
+    byte_at(s, at) as u16 * 256 + byte_at(s, at + 2) as u16
+}
+
+// Whether every character is hex. No early exit, so that the loop is compiled to vector code.
+pub fn all_hex(s: &[u8]) -> bool
+    ensures { λ r. ⌜ r ≡ allHex (now (s .entry)) ⌝ }
+{
+    let mut good = true;
+    let mut i: usize = 0;
+    while i < s.len() {
+        good = good & is_hex(s[i]);
+        i += 1;
+    }
+    good
+}
+
+// Puts the two characters of a byte.
+pub fn put_byte(out: &mut [u8], at: usize, b: u8) -> usize
+    requires { ⌜ Room (now out) at (pairOf b) ⌝ }
+    ensures { λ r. ⌜ Put (now (out .entry)) at (pairOf b) (now (out .exit)) r ⌝ }
+{
+    let next = buffer::put(out, at, char_of(b / 16));
+    buffer::put(out, next, char_of(b % 16))
+}
