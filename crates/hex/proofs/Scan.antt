@@ -1,12 +1,15 @@
--- What the loop over characters and the writer of a pair lean on: a turn, the end, and the two characters of a byte.
+-- What the loops over characters and bytes lean on: a turn, the end, and the characters of one byte more.
 use mathlib.Core.Path.{_≡_, refl, sym, ap, ap₂, _∙_}
 use mathlib.Core.Bool.{Bool, true, false, _&&_, and-true, and-assoc}
 use mathlib.Core.List.{List, [], _∷_, _++_}
 use Prim.Native.Nat.{ℕ, _+_, _/_, _%_, _≤_, _<_}
 use native.Mathlib.Omega.{arith}
-use lib.ListN.{length, getD, drop, drop-of-length-le}
+use native.Mathlib.Numerals.{add-one}
+use lib.ListN.{length, getD, take, drop, drop-of-length-le}
+use lib.Seq.{take-suc}
 use Rattle.buffer.proofs.Lists.{left-at}
-use Rattle.hex.specs.Hex.{isHex, charOf, allHex, pairOf}
+use Rattle.hex.specs.Hex.{isHex, charOf, allHex, pairOf, hexes, word}
+use Rattle.hex.proofs.Laws.{pair-hexes, hexes-join}
 
 pub all-turn : (s : List ℕ) (i : ℕ) (good here : Bool) → i < length s → here ≡ isHex (getD s i 0)
     → ((good && here) && allHex (drop (i + 1) s)) ≡ (good && allHex (drop i s))
@@ -23,3 +26,16 @@ pair-two b {x} {y} e f h =
     let p : b / 16 % 16 ≡ b / 16 = omega arith in
     let q : b % 16 % 16 ≡ b % 16 = omega arith in
     ap₂ (λ (u v : ℕ). u ∷ v ∷ []) (e ∙ ap charOf p) (f ∙ ap charOf q)
+
+pub hexes-more : (bs : List ℕ) (i : ℕ) → i < length bs → hexes (take i bs) ++ pairOf (getD bs i 0) ≡ hexes (take (i + 1) bs)
+hexes-more bs i h =
+    rw (add-one, take-suc bs i 0 h, hexes-join (take i bs) (getD bs i 0 ∷ []), pair-hexes (getD bs i 0))
+
+pub hexes-none : (bs : List ℕ) → [] ≡ hexes (take 0 bs)
+unfolding hexes
+hexes-none [] = refl
+hexes-none (b ∷ bs) = refl
+
+pub word-two : (w : ℕ) → pairOf (w / 256) ++ pairOf (w % 256) ≡ hexes (word w)
+unfolding pairOf hexes
+word-two w = refl

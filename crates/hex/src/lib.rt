@@ -4,7 +4,7 @@ ghost use mathlib.Core.Path.{_≡_};
 ghost use Prim.Native.Nat.{_+_, _%_, _<_};
 ghost use lib.ListN.{length};
 ghost use Rattle.buffer.specs.Put.{Room, Put};
-ghost use Rattle.hex.specs.Hex.{isHex, digitOf, charOf, byteOf, byteAt, wordAt, allHex, pairOf};
+ghost use Rattle.hex.specs.Hex.{isHex, digitOf, charOf, byteOf, byteAt, wordAt, allHex, pairOf, hexes, word};
 
 // Whether a character is hex.
 pub fn is_hex(c: u8) -> bool
@@ -83,4 +83,27 @@ pub fn put_byte(out: &mut [u8], at: usize, b: u8) -> usize
 {
     let next = buffer::put(out, at, char_of(b / 16));
     buffer::put(out, next, char_of(b % 16))
+}
+
+// Puts the four characters of a word.
+pub fn put_word(out: &mut [u8], at: usize, w: u16) -> usize
+    requires { ⌜ Room (now out) at (hexes (word w)) ⌝ }
+    ensures { λ r. ⌜ Put (now (out .entry)) at (hexes (word w)) (now (out .exit)) r ⌝ }
+{
+    let next = put_byte(out, at, (w / 256) as u8);
+    put_byte(out, next, (w % 256) as u8)
+}
+
+// Puts the characters of bytes.
+pub fn put_bytes(out: &mut [u8], at: usize, bytes: &[u8]) -> usize
+    requires { ⌜ Room (now out) at (hexes (now bytes)) ⌝ }
+    ensures { λ r. ⌜ Put (now (out .entry)) at (hexes (now (bytes .entry))) (now (out .exit)) r ⌝ }
+{
+    let mut next = at;
+    let mut i: usize = 0;
+    while i < bytes.len() {
+        next = put_byte(out, next, bytes[i]);
+        i += 1;
+    }
+    next
 }

@@ -1,0 +1,283 @@
+-- The judge accepts exactly the whole encodings, with their header and LENID: the seven tests as facts, and the characters laid out for any LENGTH and CHKSUM.
+use mathlib.Core.Path.{_≡_, refl, sym, ap, ap₂, _∙_, subst}
+use mathlib.Core.Logic.{_↔_}
+use mathlib.Core.Bool.{Bool, true, false}
+use mathlib.Core.List.{List, [], _∷_, _++_}
+use Prim.Native.Nat.{ℕ, _+_, _*_, _/_, _%_, _≤_, _<_}
+use native.Mathlib.Omega.{arith}
+use lib.ListN.{length, take, length-append}
+use lib.Seq.{take-at}
+use lib.Dec.{T, eqb→eq, leb→le, le→leb}
+use mir.Facts.{yes-eqb}
+use Rattle.buffer.proofs.Lists.{never}
+use Rattle.hex.specs.Hex.{hexes, word, byteAt, wordAt, unhexes, Bytes}
+use Rattle.hex.proofs.Laws.{Hexy, hexy-yes, yes-hexy, hexy-join, hexy-hexes, length-hexes, hexes-join, byte-pair, word-pairs, word-hexes, word-seam, bytes-word, bytes-cut, bytes-unhexes, hexes-unhexes}
+use Rattle.frame.specs.declared.Header.{Header}
+use Rattle.frame.specs.Frame.{lchksum, lengthOf, chksum, packed, seal, chars, Encodes, Whole, Frames}
+use Rattle.frame.specs.Judge.{Told, frame, need, header, lenid, judge}
+
+-- ---- the seven tests, as facts
+
+need-frame : (b : Bool) (n : ℕ) (t : Told) (h : Header) (k : ℕ) → need b n t ≡ frame h k → T b × (t ≡ frame h k)
+unfolding need
+need-frame true n t h k p = (tt, p)
+need-frame false n t h k p = never (cc)
+
+need-yes : (b : Bool) (n : ℕ) (t : Told) → T b → need b n t ≡ t
+unfolding need
+need-yes true n t y = refl
+need-yes false n t y = absurd y
+
+pub record Good (c : List ℕ) : Type 0 where
+  pub few : length c ≤ 4110
+  pub long : 16 ≤ length c
+  pub hexy : Hexy c
+  pub lchk : wordAt c 8 / 4096 ≡ lchksum (lenid c)
+  pub even : lenid c % 2 ≡ 0
+  pub count : length c ≡ 16 + lenid c
+  pub check : wordAt c (12 + lenid c) ≡ chksum (take (12 + lenid c) c)
+
+judge-good : (c : List ℕ) (h : Header) (n : ℕ) → judge c ≡ frame h n → Good c × (frame (header c) (lenid c) ≡ frame h n)
+unfolding judge
+judge-good c h n p =
+    let z = need-frame _ 1 _ h n p in
+    let a = need-frame _ 3 _ h n (z .1) in
+    let b = need-frame _ 4 _ h n (a .1) in
+    let d = need-frame _ 5 _ h n (b .1) in
+    let e = need-frame _ 6 _ h n (d .1) in
+    let f = need-frame _ 7 _ h n (e .1) in
+    let g = need-frame _ 8 _ h n (f .1) in (
+      record {
+        few = leb→le _ _ (z .0);
+        long = leb→le _ _ (a .0);
+        hexy = hexy-yes c (b .0);
+        lchk = eqb→eq _ _ (d .0);
+        even = eqb→eq _ _ (e .0);
+        count = eqb→eq _ _ (f .0);
+        check = eqb→eq _ _ (g .0);
+      },
+      g .1,
+    )
+
+good-judge : (c : List ℕ) → Good c → judge c ≡ frame (header c) (lenid c)
+unfolding judge
+good-judge c g =
+    need-yes _ 1 _ (le→leb _ _ (g .few))
+    ∙ need-yes _ 3 _ (le→leb _ _ (g .long))
+    ∙ need-yes _ 4 _ (yes-hexy c (g .hexy))
+    ∙ need-yes _ 5 _ (yes-eqb (g .lchk))
+    ∙ need-yes _ 6 _ (yes-eqb (g .even))
+    ∙ need-yes _ 7 _ (yes-eqb (g .count))
+    ∙ need-yes _ 8 _ (yes-eqb (g .check))
+
+-- ---- LENGTH and CHKSUM are of sixteen bits
+
+pub length-fits : (n : ℕ) → n < 4096 → lengthOf n < 65536
+unfolding lengthOf lchksum
+length-fits n h = omega arith
+
+length-low : (n : ℕ) → n < 4096 → lengthOf n % 4096 ≡ n
+unfolding lengthOf lchksum
+length-low n h = omega arith
+
+length-high : (n : ℕ) → n < 4096 → lengthOf n / 4096 ≡ lchksum n
+unfolding lengthOf lchksum
+length-high n h = omega arith
+
+length-whole : (w : ℕ) → w / 4096 ≡ lchksum (w % 4096) → w ≡ lengthOf (w % 4096)
+unfolding lengthOf
+length-whole w e = omega arith
+
+pub chksum-fits : (c : List ℕ) → chksum c < 65536
+unfolding chksum
+chksum-fits c = omega arith
+
+-- ---- characters with any LENGTH l and any CHKSUM k: what is read in them
+
+abbrev Four : Header → Type 0
+Four h = Bytes (h .ver ∷ h .adr ∷ h .cid1 ∷ h .cid2 ∷ [])
+
+record Laid (h : Header) (l : ℕ) (info : List ℕ) (k : ℕ) (c : List ℕ) : Type 0 where
+  four : Four h
+  l-fits : l < 65536
+  body : Bytes info
+  k-fits : k < 65536
+  is : c ≡ hexes (packed h l info) ++ hexes (word k)
+
+record Read (h : Header) (l : ℕ) (info : List ℕ) (k : ℕ) (c : List ℕ) : Type 0 where
+  hexy : Hexy c
+  head : header c ≡ h
+  len : wordAt c 8 ≡ l
+  count : length c ≡ 16 + 2 * length info
+  front : take (12 + 2 * length info) c ≡ hexes (packed h l info)
+  last : wordAt c (12 + 2 * length info) ≡ k
+
+pub bytes-packed : (h : Header) (l : ℕ) (info : List ℕ) → Four h → l < 65536 → Bytes info → Bytes (packed h l info)
+unfolding packed
+bytes-packed h l info f e b = (f .0, (f .1 .0, (f .1 .1 .0, (f .1 .1 .1 .0, (omega arith, (omega arith, b))))))
+
+read-head : (h : Header) (l : ℕ) (info t : List ℕ) → Four h → header (hexes (packed h l info) ++ t) ≡ h
+unfolding header packed hexes byteAt
+read-head h l info t f =
+    let v = byte-pair (h .ver) (f .0) in
+    let a = byte-pair (h .adr) (f .1 .0) in
+    let c = byte-pair (h .cid1) (f .1 .1 .0) in
+    let d = byte-pair (h .cid2) (f .1 .1 .1 .0) in
+    λ i. record { ver = v i; adr = a i; cid1 = c i; cid2 = d i }
+
+read-len : (h : Header) (l : ℕ) (info t : List ℕ) → l < 65536 → wordAt (hexes (packed h l info) ++ t) 8 ≡ l
+unfolding packed hexes wordAt byteAt
+read-len h l info t e = word-pairs l e
+
+pub length-packed : (h : Header) (l : ℕ) (info : List ℕ) → length (hexes (packed h l info)) ≡ 12 + 2 * length info
+unfolding packed
+length-packed h l info = omega (arith, length-hexes (packed h l info))
+
+module _ (h : Header) (l : ℕ) (info : List ℕ) (k : ℕ) (c : List ℕ) (a : Laid h l info k c) where
+  read : Read h l info k c
+  read =
+      let s = hexes (packed h l info) in
+      let t = hexes (word k) in
+      let n = length-packed h l info in
+      subst (Read h l info k) (sym (a .is))
+      (record {
+        hexy = hexy-join s t (hexy-hexes (packed h l info) (bytes-packed h l info (a .four) (a .l-fits) (a .body))) (hexy-hexes (word k) (bytes-word k (a .k-fits)));
+        head = read-head h l info t (a .four);
+        len = read-len h l info t (a .l-fits);
+        count = omega (arith, n, length-append s t, length-hexes (word k));
+        front = take-at s t (12 + 2 * length info) n;
+        last = (rw n at (word-seam s t)) ∙ word-hexes k (a .k-fits);
+      })
+
+  -- LENGTH and CHKSUM as they should be make it good, and only these
+  laid-good : length info ≤ 2047 → l ≡ lengthOf (2 * length info) → k ≡ chksum (hexes (packed h l info)) → Good c × (lenid c ≡ 2 * length info)
+  unfolding lenid
+  laid-good s e f =
+      let r = read in
+      let n : lenid c ≡ 2 * length info = omega (arith, r .len, e, length-low (2 * length info) (omega arith)) in
+      let hi : wordAt c 8 / 4096 ≡ lchksum (2 * length info) = rw (r .len, e) (length-high (2 * length info) (omega arith)) in (
+        record {
+          few = omega (arith, r .count);
+          long = omega (arith, r .count);
+          hexy = r .hexy;
+          lchk = hi ∙ ap lchksum (sym n);
+          even = omega (arith, n);
+          count = omega (arith, n, r .count);
+          check = cc (r .last, r .front, f, n);
+        },
+        n,
+      )
+
+  good-laid : Good c → Encodes h info c × (lenid c ≡ 2 * length info)
+  unfolding chars seal lenid
+  good-laid g =
+      let r = read in
+      let n : lenid c ≡ 2 * length info = omega (arith, r .count, g .count) in
+      let w : wordAt c 8 ≡ lengthOf (lenid c) = length-whole (wordAt c 8) (g .lchk) in
+      let e : l ≡ lengthOf (2 * length info) = sym (r .len) ∙ w ∙ ap lengthOf n in
+      let f : k ≡ chksum (hexes (packed h l info)) = cc (r .last, r .front, g .check, n) in (
+        record {
+          head = a .four;
+          body = a .body;
+          short = omega (arith, n);
+          is =
+              a .is
+              ∙ ap (λ (x : ℕ). hexes (packed h l info) ++ hexes (word x)) f
+              ∙ ap (λ (x : ℕ). seal (hexes (packed h x info))) e;
+        },
+        n,
+      )
+
+-- ---- what was written is read back
+
+pub chars-read : (h : Header) (info c : List ℕ) → Encodes h info c → Good c × (header c ≡ h) × (lenid c ≡ 2 * length info)
+unfolding chars seal
+chars-read h info c e =
+    let w = lengthOf (2 * length info) in
+    let b = hexes (packed h w info) in
+    let a : Laid h w info (chksum b) c =
+    record { four = e .head; l-fits = length-fits (2 * length info) (omega (arith, e .short)); body = e .body; k-fits = chksum-fits b; is = e .is } in
+    let g = laid-good h w info (chksum b) c a (e .short) refl refl in
+    (g .0, read h w info (chksum b) c a .head, g .1)
+
+-- ---- what is accepted was written so: hex characters, 16 or more and an even number, are some frame's but for LENGTH and CHKSUM
+
+abbrev Some : List ℕ → Type 0
+Some c = (h : Header) × (l : ℕ) × (info : List ℕ) × (k : ℕ) × Laid h l info k c
+
+last-two : (s : List ℕ) → 2 ≤ length s → (i : List ℕ) × (j : ℕ) × (k : ℕ) × (s ≡ i ++ j ∷ k ∷ [])
+last-two [] h = absurd (omega arith)
+last-two (x ∷ []) h = absurd (omega arith)
+last-two (x ∷ y ∷ []) h = ([], x, y, refl)
+last-two (x ∷ y ∷ z ∷ s) h =
+    let r = last-two (y ∷ z ∷ s) (omega arith) in
+    (x ∷ r .0, r .1, r .2, ap (λ (t : List ℕ). x ∷ t) (r .3))
+
+word-of : (l m : ℕ) → m < 256 → l ∷ m ∷ [] ≡ word (l * 256 + m)
+word-of l m h = ap₂ (λ (x y : ℕ). x ∷ y ∷ []) (omega arith) (omega arith)
+
+lay : (bs : List ℕ) → Bytes bs → 8 ≤ length bs → Some (hexes bs)
+unfolding packed
+lay [] b h = absurd (omega arith)
+lay (v ∷ []) b h = absurd (omega arith)
+lay (v ∷ a ∷ []) b h = absurd (omega arith)
+lay (v ∷ a ∷ x ∷ []) b h = absurd (omega arith)
+lay (v ∷ a ∷ x ∷ y ∷ []) b h = absurd (omega arith)
+lay (v ∷ a ∷ x ∷ y ∷ l ∷ []) b h = absurd (omega arith)
+lay (v ∷ a ∷ x ∷ y ∷ l ∷ m ∷ s) (bv, (ba, (bx, (by, (bl, (bm, bs)))))) h =
+    let r = last-two s (omega arith) in
+    let q = bytes-cut (r .0) (r .1 ∷ r .2 ∷ []) (subst Bytes (r .3) bs) in
+    let hd : Header = record { ver = v; adr = a; cid1 = x; cid2 = y } in
+    let p : v ∷ a ∷ x ∷ y ∷ l ∷ m ∷ s ≡ packed hd (l * 256 + m) (r .0) ++ word (r .1 * 256 + r .2) =
+    ap₂ (λ (w t : List ℕ). v ∷ a ∷ x ∷ y ∷ w ++ t) (word-of l m bm) (r .3 ∙ ap (λ (w : List ℕ). r .0 ++ w) (word-of (r .1) (r .2) (q .1 .1 .0))) in (
+      hd,
+      l * 256 + m,
+      r .0,
+      r .1 * 256 + r .2,
+      record {
+        four = (bv, (ba, (bx, (by, tt))));
+        l-fits = omega arith;
+        body = q .0;
+        k-fits = omega (arith, q .1 .0, q .1 .1 .0);
+        is = ap hexes p ∙ hexes-join (packed hd (l * 256 + m) (r .0)) (word (r .1 * 256 + r .2));
+      },
+    )
+
+good-chars : (c : List ℕ) → Good c → (info : List ℕ) × Encodes (header c) info c × (lenid c ≡ 2 * length info)
+good-chars c g = go (subst Some back (lay (unhexes c) (bytes-unhexes c) (omega (arith, length-hexes (unhexes c), ap length back, g .long))))
+  where
+    back : hexes (unhexes c) ≡ c
+    back = hexes-unhexes c (g .hexy) (omega (arith, g .count, g .even))
+
+    go : Some c → (info : List ℕ) × Encodes (header c) info c × (lenid c ≡ 2 * length info)
+    go (h, l, info, k, a) =
+        let q = good-laid h l info k c a g in
+        (info, subst (λ (x : Header). Encodes x info c) (sym (read h l info k c a .head)) (q .0), q .1)
+
+-- ---- the law of the judge
+
+pub judge-accepts : (c : List ℕ) (h : Header) (n : ℕ) → (judge c ≡ frame h n) ↔ Frames h n c
+judge-accepts c h n = (there, back)
+  where
+    there : judge c ≡ frame h n → Frames h n c
+    there p =
+        let g = judge-good c h n p in
+        let r = good-chars c (g .0) in
+        let hq : header c ≡ h = cc (g .1) in
+        let nq : lenid c ≡ n = cc (g .1) in
+        (r .0, subst (λ (x : Header). Encodes x (r .0) c) hq (r .1), sym nq ∙ r .2)
+
+    back : Frames h n c → judge c ≡ frame h n
+    back r =
+        let g = chars-read h (r .0) c (r .1) in
+        good-judge c (g .0) ∙ cc (g .1, g .2, r .2)
+
+-- ---- what is known of whole encodings
+
+pub whole-good : (c : List ℕ) → Whole c → Good c
+whole-good c w = chars-read (w .0) (w .1) c (w .2) .0
+
+pub whole-count : (c : List ℕ) → Whole c → (length c ≡ 16 + lenid c) × (lenid c ≤ 4094) × (lenid c % 2 ≡ 0)
+whole-count c w =
+    let g = chars-read (w .0) (w .1) c (w .2) in
+    (g .0 .count, omega (arith, g .2, w .2 .short), g .0 .even)

@@ -1,0 +1,4 @@
+pub mod Judging
+pub mod Changes
+pub mod Steps
+pub mod Round
