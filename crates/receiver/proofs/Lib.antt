@@ -1,0 +1,6 @@
+pub mod Scans
+pub mod Rows
+pub mod Running
+pub mod Receive
+pub mod Streams
+pub mod Pieces

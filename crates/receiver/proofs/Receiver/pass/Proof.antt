@@ -1,0 +1,45 @@
+-- Each arm passes as its receiver does.
+use mathlib.Core.Path.{sym, subst}
+use Prim.Native.Nat.{_-_, _≤_}
+use lib.ListN.{length}
+use borrow.Author.Needs.{needs}
+use Rattle.receiver.proofs.Running.{passed-wait}
+use Rattle.receiver.specs.Run.{countOf, Passed}
+use Rattle.receiver.specs.Scan.{before}
+use Rattle.receiver.specs.declared.Receiver.the-variants.{Open}
+use Rattle.receiver.specs.declared.Receiver.{Receiver}
+use Rattle.receiver.proofs.Receiver.pass.Statement.{statement}
+use Rattle.receiver.proofs.Receiver.pass.Tie as tie
+
+enum-told : tie.Need-enum-told
+enum-told c = search needs
+
+find-requires : tie.Need-find-requires
+find-requires c κs = search needs
+
+enum-known-self : tie.Need-enum-known-self
+enum-known-self c = search needs
+
+store-plain-requires : tie.Need-store-plain-requires
+store-plain-requires c κs = let h : countOf (Open (c .before .before .self .given .0 .0)) ≤ 4110 = rw (c .before .before .self .given .1) at (c .before .before .before .before .before .before .pre .1) in (c .before .before .before .before .before .before .pre .0, h)
+
+returns : tie.Need-returns
+returns c = subst (λ (r : Receiver). Passed r (c .before .before .before .before .before .args .store .now) (c .before .before .before .before .before .args .piece .now) (c .find .result) (c .before .before .before .before .before .args .store .now)) (sym (c .before .enum-told .given .1)) (passed-wait (c .before .before .before .before .before .args .store .now) (c .before .before .before .before .before .args .piece .now) (c .find .result) (c .before .before .before .before .before .pre .0) (c .find .ensures))
+
+same-length : tie.Need-same-length
+same-length c = search needs
+
+returns-2 : tie.Need-returns-2
+returns-2 c = subst (λ (r : Receiver). Passed r (c .before .before .before .before .before .before .before .before .before .args .store .now) (c .before .before .before .before .before .before .before .before .before .args .piece .now) (c .before .before .store-plain .result) (c .before .before .store-plain .last .0)) (sym (c .before .before .before .before .before .self .given .1)) (c .before .before .store-plain .ensures)
+
+pub pass-spec : {M : Type 1} → statement M
+pass-spec =
+    tie.close
+    (tie.spec
+    enum-told
+    find-requires
+    enum-known-self
+    store-plain-requires
+    returns
+    same-length
+    returns-2)

@@ -1,0 +1,24 @@
+-- Each arm keeps the number and the values.
+use mathlib.Core.Path.{sym, ap}
+use Prim.Native.Nat.{_-_}
+use borrow.Author.Needs.{needs}
+use Rattle.receiver.specs.Step.{paper}
+use Rattle.receiver.specs.Scan.{before}
+use Rattle.frame.specs.Judge.{paper as paperJudged}
+use Rattle.receiver.proofs.event_of.Statement.{statement}
+use Rattle.receiver.proofs.event_of.Tie as tie
+
+enum-known-judged : tie.Need-enum-known-judged
+enum-known-judged c = search needs
+
+enum-known-judged-2 : tie.Need-enum-known-judged-2
+enum-known-judged-2 c = search needs
+
+returns : tie.Need-returns
+returns c = sym (ap paperJudged (c .before .judged .given .1))
+
+returns-2 : tie.Need-returns-2
+returns-2 c = sym (ap paperJudged (c .before .judged2 .given .1))
+
+pub event-of-spec : {M : Type 1} → statement M
+event-of-spec = tie.close (tie.spec enum-known-judged enum-known-judged-2 returns returns-2)

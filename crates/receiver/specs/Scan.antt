@@ -1,0 +1,18 @@
+-- Looking for one of two bytes in a list.
+use mathlib.Core.Bool.{Bool, true, false, cond, _||_}
+use mathlib.Core.List.{List, [], _∷_}
+use Prim.Native.Nat.{ℕ, suc}
+use lib.Dec.{eqb}
+
+abbrev pub either : ℕ → ℕ → ℕ → Bool
+either a b x = eqb x a || eqb x b
+
+-- whether some element meets a test
+unfoldable pub any : (ℕ → Bool) → List ℕ → Bool
+any test [] = false
+any test (x ∷ xs) = test x || any test xs
+
+-- how many elements stand before the first that meets it, or all of them
+unfoldable pub before : (ℕ → Bool) → List ℕ → ℕ
+before test [] = 0
+before test (x ∷ xs) = cond (test x) 0 (suc (before test xs))

@@ -1,0 +1,307 @@
+// The receiver: fed by bytes, it writes characters to a lent store and hands out frames, each at its own CR.
+
+ghost use mathlib.Core.Path.{_≡_};
+ghost use Prim.Native.Nat.{_≤_};
+ghost use lib.ListN.{length};
+ghost use Rattle.frame.specs.Judge.{paper as paperJudged};
+ghost use Rattle.receiver.specs.Scan.{either, any, before};
+ghost use Rattle.receiver.specs.Step.{paper, beyond, Steps};
+ghost use Rattle.receiver.specs.Run.{isNothing, countOf, moved, Passed, Runs};
+use frame::CR;
+use frame::Header;
+use frame::Judged;
+use frame::MOST;
+use frame::SOI;
+use refusal::Refusal;
+
+// Waiting, or open with a count of characters.
+pub enum Receiver {
+    Waiting,
+    Open(usize),
+}
+
+// What a byte gives: nothing, a frame with its four bytes and LENID, or a refusal.
+pub enum Event {
+    Nothing,
+    Frame(Header, usize),
+    Refused(Refusal),
+}
+
+pub struct Stepped {
+    pub next: Receiver,
+    pub event: Event,
+}
+
+// What a run leaves: how many bytes it took, and how many characters were held when the event's byte came.
+pub struct Ran {
+    pub next: Receiver,
+    pub event: Event,
+    pub taken: usize,
+    pub held: usize,
+}
+
+// The bytes of a block that is scanned at once.
+const BLOCK: usize = 32;
+
+// Whether a or b is among the bytes. No early exit, so that the loop is compiled to vector code.
+fn has(s: &[u8], a: u8, b: u8) -> bool
+    ensures { λ r. ⌜ r ≡ any (either a b) (now (s .entry)) ⌝ }
+{
+    let mut hit = false;
+    let mut i: usize = 0;
+    while i < s.len() {
+        let x = s[i];
+        hit = hit | ((x == a) | (x == b));
+        i += 1;
+    }
+    hit
+}
+
+// The place of the first a or b, or the length: block by block, then byte by byte in the block that has it.
+fn find(s: &[u8], a: u8, b: u8) -> usize
+    ensures { λ r. ⌜ r ≡ before (either a b) (now (s .entry)) ⌝ }
+{
+    let mut i: usize = 0;
+    while BLOCK <= s.len() - i {
+        let e = i + BLOCK;
+        if has(&s[i..e], a, b) {
+            break;
+        }
+        i += BLOCK;
+    }
+    while i < s.len() {
+        let x = s[i];
+        if (x == a) | (x == b) {
+            return i;
+        }
+        i += 1;
+    }
+    i
+}
+
+fn event_of(judged: Judged) -> Event
+    ensures { λ r. ⌜ paper r ≡ paperJudged judged ⌝ }
+{
+    match judged {
+        Judged::Frame(header, lenid) => Event::Frame(header, lenid),
+        Judged::Refused(refusal) => Event::Refused(refusal),
+    }
+}
+
+fn is_nothing(event: Event) -> bool
+    ensures { λ r. ⌜ r ≡ isNothing (paper event) ⌝ }
+{
+    match event {
+        Event::Nothing => true,
+        Event::Frame(_, _) => false,
+        Event::Refused(_) => false,
+    }
+}
+
+fn least(a: usize, b: usize) -> usize
+    ensures { λ r. ⌜ (r ≤ a) × (r ≤ b) ⌝ }
+{
+    if a < b { a } else { b }
+}
+
+// One byte while waiting.
+fn wait_step(store: &[u8], byte: u8) -> Stepped
+    requires { ⌜ 4110 ≤ length (now store) ⌝ }
+    ensures { λ r. ⌜ Steps Receiver.Waiting (now (store .entry)) byte r (now (store .entry)) ⌝ }
+{
+    if byte == SOI {
+        return Stepped {
+            next: Receiver::Open(0),
+            event: Event::Nothing,
+        };
+    }
+    Stepped {
+        next: Receiver::Waiting,
+        event: Event::Nothing,
+    }
+}
+
+// One byte while open with a count of characters.
+fn open_step(store: &mut [u8], count: usize, byte: u8) -> Stepped
+    requires { ⌜ (4110 ≤ length (now store)) × (count ≤ 4110) ⌝ }
+    ensures { λ r. ⌜ Steps (Receiver.Open count) (now (store .entry)) byte r (now (store .exit)) ⌝ }
+{
+    if byte == SOI {
+        return Stepped {
+            next: Receiver::Open(0),
+            event: Event::Refused(Refusal::SoiInside),
+        };
+    }
+    if byte == CR {
+        let event = event_of(frame::judge(&store[..count]));
+        return Stepped {
+            next: Receiver::Waiting,
+            event,
+        };
+    }
+    if count == MOST {
+        return Stepped {
+            next: Receiver::Waiting,
+            event: Event::Refused(Refusal::TooLong),
+        };
+    }
+    store[count] = byte;
+    Stepped {
+        next: Receiver::Open(count + 1),
+        event: Event::Nothing,
+    }
+}
+
+// Stores the bytes of a piece before its first SOI or CR from place count on, as many as may be, and answers how many.
+fn store_plain(store: &mut [u8], count: usize, piece: &[u8]) -> usize
+    requires { ⌜ (4110 ≤ length (now store)) × (count ≤ 4110) ⌝ }
+    ensures { λ r. ⌜ Passed (Receiver.Open count) (now (store .entry)) (now (piece .entry)) r (now (store .exit)) ⌝ }
+{
+    let most = least(MOST - count, piece.len());
+    let k = find(&piece[..most], SOI, CR);
+    buffer::put_all(store, count, &piece[..k]);
+    k
+}
+
+impl Receiver {
+    // A fresh receiver.
+    pub fn new() -> Receiver
+        ensures { λ r. ⌜ r ≡ Receiver.Waiting ⌝ }
+    {
+        Receiver::Waiting
+    }
+
+    fn count(self) -> usize
+        ensures { λ r. ⌜ r ≡ countOf self ⌝ }
+    {
+        match self {
+            Receiver::Waiting => 0,
+            Receiver::Open(count) => count,
+        }
+    }
+
+    fn is_beyond(self) -> bool
+        ensures { λ r. ⌜ r ≡ beyond self ⌝ }
+    {
+        match self {
+            Receiver::Waiting => false,
+            Receiver::Open(count) => MOST < count,
+        }
+    }
+
+    // After k bytes that it only waits over, or only stores.
+    fn moved(self, k: usize) -> Receiver
+        requires { ⌜ countOf (moved self k) ≤ 4110 ⌝ }
+        ensures { λ r. ⌜ r ≡ moved self k ⌝ }
+    {
+        match self {
+            Receiver::Waiting => Receiver::Waiting,
+            Receiver::Open(count) => Receiver::Open(count + k),
+        }
+    }
+
+    // One byte, where the store is long enough and the count within it.
+    fn advance(self, store: &mut [u8], byte: u8) -> Stepped
+        requires { ⌜ (4110 ≤ length (now store)) × (countOf self ≤ 4110) ⌝ }
+        ensures { λ r. ⌜ Steps self (now (store .entry)) byte r (now (store .exit)) ⌝ }
+    {
+        match self {
+            Receiver::Waiting => wait_step(store, byte),
+            Receiver::Open(count) => open_step(store, count, byte),
+        }
+    }
+
+    // Passes the bytes at the start of a piece that it only waits over, or only stores, and answers how many.
+    fn pass(self, store: &mut [u8], piece: &[u8]) -> usize
+        requires { ⌜ (4110 ≤ length (now store)) × (countOf self ≤ 4110) ⌝ }
+        ensures { λ r. ⌜ Passed self (now (store .entry)) (now (piece .entry)) r (now (store .exit)) ⌝ }
+    {
+        match self {
+            Receiver::Waiting => find(piece, SOI, SOI),
+            Receiver::Open(count) => store_plain(store, count, piece),
+        }
+    }
+
+    // A run, where the store is long enough and the count within it: passes what it can, and steps over the byte after that.
+    fn run_within(self, store: &mut [u8], piece: &[u8]) -> Ran
+        requires { ⌜ (4110 ≤ length (now store)) × (countOf self ≤ 4110) ⌝ }
+        ensures { λ r. ⌜ Runs self (now (store .entry)) (now (piece .entry)) r (now (store .exit)) ⌝ }
+    {
+        let mut now = self;
+        let mut i: usize = 0;
+        while i < piece.len() {
+            let k = now.pass(store, &piece[i..]);
+            let at = now.moved(k);
+            i += k;
+            if i == piece.len() {
+                return Ran {
+                    next: at,
+                    event: Event::Nothing,
+                    taken: i,
+                    held: 0,
+                };
+            }
+            let stepped = at.advance(store, piece[i]);
+            i += 1;
+            let event = stepped.event;
+            let next = stepped.next;
+            if !is_nothing(event) {
+                return Ran {
+                    next,
+                    event,
+                    taken: i,
+                    held: at.count(),
+                };
+            }
+            now = next;
+        }
+        Ran {
+            next: now,
+            event: Event::Nothing,
+            taken: i,
+            held: 0,
+        }
+    }
+
+    // One byte: the next receiver and the event. 32 for a store below 4,110 bytes, then 35 for a count above 4,110.
+    pub fn step(self, store: &mut [u8], byte: u8) -> Stepped
+        ensures { λ r. ⌜ Steps self (now (store .entry)) byte r (now (store .exit)) ⌝ }
+    {
+        if store.len() < MOST {
+            return Stepped {
+                next: self,
+                event: Event::Refused(Refusal::BufferTooShort),
+            };
+        }
+        if self.is_beyond() {
+            return Stepped {
+                next: self,
+                event: Event::Refused(Refusal::ReceiverBeyondStore),
+            };
+        }
+        self.advance(store, byte)
+    }
+
+    // A piece of the stream, up to and including the byte that gives an event, or all of it: the same as stepping. 32 and 35 take no byte.
+    pub fn run(self, store: &mut [u8], piece: &[u8]) -> Ran
+        ensures { λ r. ⌜ Runs self (now (store .entry)) (now (piece .entry)) r (now (store .exit)) ⌝ }
+    {
+        if store.len() < MOST {
+            return Ran {
+                next: self,
+                event: Event::Refused(Refusal::BufferTooShort),
+                taken: 0,
+                held: 0,
+            };
+        }
+        if self.is_beyond() {
+            return Ran {
+                next: self,
+                event: Event::Refused(Refusal::ReceiverBeyondStore),
+                taken: 0,
+                held: 0,
+            };
+        }
+        self.run_within(store, piece)
+    }
+}
