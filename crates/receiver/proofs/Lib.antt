@@ -4,3 +4,4 @@ pub mod Running
 pub mod Receive
 pub mod Streams
 pub mod Pieces
+pub mod Bound

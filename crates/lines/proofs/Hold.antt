@@ -1,0 +1,10 @@
+-- The paper's lines marked P hold: each is computed from the definitions.
+use mathlib.Core.Path.{refl}
+use Rattle.hex.specs.Hex.{isHex, digitOf, charOf, allHex, hexes, byteOf, byteAt, wordAt}
+use Rattle.frame.specs.Frame.{lchksum, lengthOf, sum, chksum, packed, seal, chars, encode}
+use Rattle.frame.specs.Judge.{need, header, lenid, judge}
+use Rattle.lines.specs.Lines.{AllHold, lines}
+
+pub lines-hold : AllHold lines
+unfolding isHex digitOf charOf allHex hexes byteOf byteAt wordAt lchksum lengthOf sum chksum packed seal chars encode need header lenid judge
+lines-hold = (refl, (refl, (refl, (refl, (refl, (refl, ((refl, refl), ((refl, refl), ((refl, refl), ((refl, refl), tt))))))))))

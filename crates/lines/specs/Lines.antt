@@ -1,0 +1,47 @@
+-- The paper's lines marked P: each line says something of the definitions, and one list has them all.
+use mathlib.Core.Path.{_≡_}
+use mathlib.Core.List.{List, [], _∷_, _++_}
+use Prim.Native.Nat.{ℕ, _*_}
+use Prim.Native.String.{String}
+use lib.ListN.{length, drop}
+use Rattle.buffer.specs.Text.{ascii}
+use Rattle.hex.specs.Hex.{hexes, word}
+use Rattle.frame.specs.declared.Header.{Header}
+use Rattle.frame.specs.Frame.{CR, lengthOf, chksum, encode}
+use Rattle.frame.specs.Judge.{frame, judge}
+
+pub data Line : Type 0 where
+  -- a LENID and its LENGTH
+  LENID : ℕ → String → Line
+  -- characters and their CHKSUM
+  check : String → String → Line
+  -- a frame from its tilde on, and its VER, ADR, CID1, CID2 and INFO: accepted, and written so
+  sent : String → ℕ → ℕ → ℕ → ℕ → List ℕ → Line
+
+abbrev pub headerOf : ℕ → ℕ → ℕ → ℕ → Header
+headerOf ver adr cid1 cid2 = record { ver = ver; adr = adr; cid1 = cid1; cid2 = cid2 }
+
+abbrev pub Holds : Line → Type 0
+Holds (LENID n text) = hexes (word (lengthOf n)) ≡ ascii text
+Holds (check characters text) = hexes (word (chksum (ascii characters))) ≡ ascii text
+Holds (sent text ver adr cid1 cid2 info) =
+    (judge (drop 1 (ascii text)) ≡ frame (headerOf ver adr cid1 cid2) (2 * length info))
+    × (encode (headerOf ver adr cid1 cid2) info ≡ ascii text ++ CR ∷ [])
+
+abbrev pub AllHold : List Line → Type 0
+AllHold [] = Unit {0}
+AllHold (line ∷ lines) = Holds line × AllHold lines
+
+abbrev pub lines : List Line
+lines =
+    LENID 0 "0000"
+    ∷ LENID 18 "D012"
+    ∷ LENID 166 "00A6"
+    ∷ LENID 4094 "4FFE"
+    ∷ check "1203400456ABCEFE" "FC71"
+    ∷ check "1203400456ABCDFE" "FC72"
+    ∷ sent "~2002464F0000FD98" 0x20 0x02 0x46 0x4F []
+    ∷ sent "~210246000000FDB1" 0x21 0x02 0x46 0x00 []
+    ∷ sent "~21024642E00202FD32" 0x21 0x02 0x46 0x42 (0x02 ∷ [])
+    ∷ sent "~210246040000FDAD" 0x21 0x02 0x46 0x04 []
+    ∷ []
