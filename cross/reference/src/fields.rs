@@ -1,0 +1,165 @@
+//! The field reader: "holds the INFO part and its place in it; few functions work on it". On it, the
+//! records "in byte order".
+
+use crate::module::{is_cell_count, is_code, is_temperature_count, Alarm, Analog, Limits, SMALL};
+use crate::Number;
+
+/// INFO and a place in it.
+#[derive(Clone, Debug)]
+pub struct Fields<'a> {
+    info: &'a [u8],
+    place: usize,
+}
+
+impl<'a> Fields<'a> {
+    /// At the first byte of INFO.
+    pub fn new(info: &'a [u8]) -> Self {
+        Fields { info, place: 0 }
+    }
+
+    /// Whether no byte is left.
+    pub fn at_end(&self) -> bool {
+        self.place == self.info.len()
+    }
+
+    /// The next byte; 16: "INFO ends before a needed byte".
+    pub fn next_byte(&mut self) -> Result<u8, Number> {
+        let byte = *self.info.get(self.place).ok_or(16)?;
+        self.place += 1;
+        Ok(byte)
+    }
+
+    /// The next two bytes: "All numbers are high byte first."
+    pub fn next_word(&mut self) -> Result<u16, Number> {
+        let high = self.next_byte()?;
+        let low = self.next_byte()?;
+        Ok(u16::from(high) * 256 + u16::from(low))
+    }
+}
+
+/// Two bytes as a signed number.
+fn next_signed(fields: &mut Fields) -> Result<i16, Number> {
+    Ok(fields.next_word()? as i16)
+}
+
+/// Three bytes, high byte first.
+fn next_three(fields: &mut Fields) -> Result<u32, Number> {
+    let high = u32::from(fields.next_byte()?);
+    Ok(high * 65_536 + u32::from(fields.next_word()?))
+}
+
+/// An alarm code; 20: "alarm code not 00, 01, 02 or F0".
+fn next_code(fields: &mut Fields) -> Result<u8, Number> {
+    let code = fields.next_byte()?;
+    if is_code(code) {
+        Ok(code)
+    } else {
+        Err(20)
+    }
+}
+
+/// M; 15: "cell count not 1 to 16".
+fn next_cell_count(fields: &mut Fields) -> Result<u8, Number> {
+    let count = fields.next_byte()?;
+    if is_cell_count(count) {
+        Ok(count)
+    } else {
+        Err(15)
+    }
+}
+
+/// N; 15: "or temperature count not 1 to 8".
+fn next_temperature_count(fields: &mut Fields) -> Result<u8, Number> {
+    let count = fields.next_byte()?;
+    if is_temperature_count(count) {
+        Ok(count)
+    } else {
+        Err(15)
+    }
+}
+
+/// A given number of bytes.
+pub fn next_bytes<const N: usize>(fields: &mut Fields) -> Result<[u8; N], Number> {
+    let mut bytes = [0; N];
+    for byte in &mut bytes {
+        *byte = fields.next_byte()?;
+    }
+    Ok(bytes)
+}
+
+/// One record of 42H: "M; M cells, signed mV; N; N temperatures, 2 bytes; current; module voltage,
+/// unsigned mV; remaining 1, 2 bytes; items; total 1, 2 bytes; cycles, 2 bytes. With items 4 then
+/// remaining 2 and total 2, 3 bytes each." "Refusal 19 comes after its record's last byte."
+pub fn next_analog(fields: &mut Fields) -> Result<Analog, Number> {
+    // List places beyond M or N "hold 0, after reading too".
+    let mut analog = Analog {
+        cell_count: next_cell_count(fields)?,
+        ..Analog::default()
+    };
+    for place in 0..usize::from(analog.cell_count) {
+        analog.cells[place] = next_signed(fields)?;
+    }
+    analog.temperature_count = next_temperature_count(fields)?;
+    for place in 0..usize::from(analog.temperature_count) {
+        analog.temperatures[place] = next_signed(fields)?;
+    }
+    analog.current = next_signed(fields)?;
+    analog.voltage = fields.next_word()?;
+    let remaining_1 = fields.next_word()?;
+    let items = fields.next_byte()?;
+    // 18: "user defined items neither 2 nor 4".
+    if items != 2 && items != 4 {
+        return Err(18);
+    }
+    let total_1 = fields.next_word()?;
+    analog.cycles = fields.next_word()?;
+    if items == 2 {
+        analog.remaining = u32::from(remaining_1);
+        analog.total = u32::from(total_1);
+        // "Items 2: both at most 65,000."
+        if analog.remaining > SMALL || analog.total > SMALL {
+            return Err(19);
+        }
+    } else {
+        analog.remaining = next_three(fields)?;
+        analog.total = next_three(fields)?;
+        // "Items 4: both two-byte fields FFFFH, and total 2 above 65,000."
+        if remaining_1 != 0xFFFF || total_1 != 0xFFFF || analog.total <= SMALL {
+            return Err(19);
+        }
+    }
+    Ok(analog)
+}
+
+/// One record of 44H: "M, M codes, N, N codes, codes for charge current, module voltage and
+/// discharge current, status 1 to 5".
+pub fn next_alarm(fields: &mut Fields) -> Result<Alarm, Number> {
+    let mut alarm = Alarm {
+        cell_count: next_cell_count(fields)?,
+        ..Alarm::default()
+    };
+    for place in 0..usize::from(alarm.cell_count) {
+        alarm.cells[place] = next_code(fields)?;
+    }
+    alarm.temperature_count = next_temperature_count(fields)?;
+    for place in 0..usize::from(alarm.temperature_count) {
+        alarm.temperatures[place] = next_code(fields)?;
+    }
+    alarm.charge_current = next_code(fields)?;
+    alarm.module_voltage = next_code(fields)?;
+    alarm.discharge_current = next_code(fields)?;
+    alarm.status = next_bytes(fields)?;
+    Ok(alarm)
+}
+
+/// The record of 92H: "two voltage limits (unsigned mV), two current limits (signed, 100 mA),
+/// status".
+pub fn next_limits(fields: &mut Fields) -> Result<Limits, Number> {
+    Ok(Limits {
+        charge_voltage: fields.next_word()?,
+        discharge_voltage: fields.next_word()?,
+        charge_current: next_signed(fields)?,
+        discharge_current: next_signed(fields)?,
+        status: fields.next_byte()?,
+    })
+}

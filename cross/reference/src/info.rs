@@ -1,0 +1,150 @@
+//! INFO with a Command byte: "There is a record writer for each kind". Each gives INFO as bytes and
+//! says how many; "each changes only the bytes it writes".
+
+use crate::module::{is_address, items, used, Alarm, Analog, Limits, Module};
+use crate::{table, Number};
+
+/// "FFH at the master for the whole group".
+pub const GROUP: u8 = 0xFF;
+
+/// One record of 42H, "length 13 + 2M + 2N, or 6 more"; none where it can't be encoded.
+fn analog_record(analog: &Analog) -> Option<Vec<u8>> {
+    if !analog.is_encodable() {
+        return None;
+    }
+    let mut bytes = vec![analog.cell_count];
+    for cell in used(&analog.cells, analog.cell_count) {
+        bytes.extend(cell.to_be_bytes());
+    }
+    bytes.push(analog.temperature_count);
+    for temperature in used(&analog.temperatures, analog.temperature_count) {
+        bytes.extend(temperature.to_be_bytes());
+    }
+    bytes.extend(analog.current.to_be_bytes());
+    bytes.extend(analog.voltage.to_be_bytes());
+    let items = items(analog.total);
+    let (remaining_1, total_1) = match items {
+        2 => (analog.remaining as u16, analog.total as u16),
+        _ => (0xFFFF, 0xFFFF),
+    };
+    bytes.extend(remaining_1.to_be_bytes());
+    bytes.push(items);
+    bytes.extend(total_1.to_be_bytes());
+    bytes.extend(analog.cycles.to_be_bytes());
+    if items == 4 {
+        bytes.extend(&analog.remaining.to_be_bytes()[1..]);
+        bytes.extend(&analog.total.to_be_bytes()[1..]);
+    }
+    Some(bytes)
+}
+
+/// One record of 44H, "length 10 + M + N"; none where it can't be encoded.
+fn alarm_record(alarm: &Alarm) -> Option<Vec<u8>> {
+    if !alarm.is_encodable() {
+        return None;
+    }
+    let mut bytes = vec![alarm.cell_count];
+    bytes.extend(used(&alarm.cells, alarm.cell_count));
+    bytes.push(alarm.temperature_count);
+    bytes.extend(used(&alarm.temperatures, alarm.temperature_count));
+    bytes.push(alarm.charge_current);
+    bytes.push(alarm.module_voltage);
+    bytes.push(alarm.discharge_current);
+    bytes.extend(alarm.status);
+    Some(bytes)
+}
+
+/// The record of 92H.
+fn limits_record(limits: &Limits) -> Vec<u8> {
+    let mut bytes = Vec::new();
+    bytes.extend(limits.charge_voltage.to_be_bytes());
+    bytes.extend(limits.discharge_voltage.to_be_bytes());
+    bytes.extend(limits.charge_current.to_be_bytes());
+    bytes.extend(limits.discharge_current.to_be_bytes());
+    bytes.push(limits.status);
+    bytes
+}
+
+/// "32 if the buffer is shorter than the record's INFO", otherwise the bytes are put.
+fn put(info: &[u8], out: &mut [u8]) -> Result<usize, Number> {
+    if out.len() < info.len() {
+        return Err(32);
+    }
+    out[..info.len()].copy_from_slice(info);
+    Ok(info.len())
+}
+
+/// "writer of a record 33, then 32": one record behind what stands before it. 33 is also for "an
+/// ADR outside the address rule".
+fn write_one(
+    adr: u8,
+    before: &[u8],
+    record: Option<Vec<u8>>,
+    out: &mut [u8],
+) -> Result<usize, Number> {
+    if !is_address(adr) {
+        return Err(33);
+    }
+    let record = record.ok_or(33)?;
+    let mut info = before.to_vec();
+    info.extend(record);
+    put(&info, out)
+}
+
+/// "or for FFH the lent table: then 31, then 32, and with no member on only the flag and FFH are
+/// written"; "the records of the members that are on, in rising ADR".
+fn write_group(
+    lent: &[Module],
+    flag: u8,
+    record: fn(&Module) -> Option<Vec<u8>>,
+    out: &mut [u8],
+) -> Result<usize, Number> {
+    table::rule(lent)?;
+    let mut info = vec![flag, GROUP];
+    for member in lent.iter().filter(|member| member.on == 1) {
+        info.extend(record(member).ok_or(31)?);
+    }
+    put(&info, out)
+}
+
+/// INFO of 42H for one module: "flag byte, Command byte, then one record", whose "ADR is Command
+/// and of which only ADR and that kind's fields are judged".
+pub fn write_analog(module: &Module, flag: u8, out: &mut [u8]) -> Result<usize, Number> {
+    let record = analog_record(&module.analog);
+    write_one(module.adr, &[flag, module.adr], record, out)
+}
+
+/// INFO of 44H for one module: "flag byte, Command byte, then one record".
+pub fn write_alarm(module: &Module, flag: u8, out: &mut [u8]) -> Result<usize, Number> {
+    let record = alarm_record(&module.alarm);
+    write_one(module.adr, &[flag, module.adr], record, out)
+}
+
+/// INFO of 92H: "Command, two voltage limits (unsigned mV), two current limits (signed, 100 mA),
+/// status: 10 bytes".
+pub fn write_limits(module: &Module, out: &mut [u8]) -> Result<usize, Number> {
+    let record = limits_record(&module.limits);
+    write_one(module.adr, &[module.adr], Some(record), out)
+}
+
+/// INFO of 93H: "Command and 16 bytes".
+pub fn write_serial(module: &Module, out: &mut [u8]) -> Result<usize, Number> {
+    let record = module.serial.to_vec();
+    write_one(module.adr, &[module.adr], Some(record), out)
+}
+
+/// INFO of 96H: "Command and 5 bytes".
+pub fn write_version(module: &Module, out: &mut [u8]) -> Result<usize, Number> {
+    let record = module.version.to_vec();
+    write_one(module.adr, &[module.adr], Some(record), out)
+}
+
+/// INFO of 42H for the whole group.
+pub fn write_analog_group(lent: &[Module], flag: u8, out: &mut [u8]) -> Result<usize, Number> {
+    write_group(lent, flag, |member| analog_record(&member.analog), out)
+}
+
+/// INFO of 44H for the whole group.
+pub fn write_alarm_group(lent: &[Module], flag: u8, out: &mut [u8]) -> Result<usize, Number> {
+    write_group(lent, flag, |member| alarm_record(&member.alarm), out)
+}

@@ -1,0 +1,207 @@
+//! The reply reader: judges one stretch against the question asked and replaces the named fields.
+
+use crate::fields::{next_alarm, next_analog, next_bytes, next_limits, Fields};
+use crate::frame::{info, judge};
+use crate::info::GROUP;
+use crate::module::Module;
+use crate::standin::{required_lenid, takes_group};
+use crate::{table, Number};
+
+/// What was asked.
+#[derive(Clone, Copy, Debug, Default, PartialEq, Eq)]
+pub struct Question {
+    /// The address asked.
+    pub adr: u8,
+    /// The command.
+    pub cid2: u8,
+    /// Its Command; "4FH and 51H have no Command; one given with the question is ignored".
+    pub command: u8,
+}
+
+/// What the reader returns beside the table: "The reader takes any VER and returns it, with the
+/// return code, and for 51H the 32 bytes"; for 42H and 44H "the reader takes any [flag] and returns
+/// it".
+#[derive(Clone, Copy, Debug, PartialEq, Eq)]
+pub struct Reply {
+    /// VER.
+    pub ver: u8,
+    /// The return code.
+    pub code: u8,
+    /// The flag of 42H and 44H with code 00H.
+    pub flag: Option<u8>,
+    /// The 32 bytes of 51H with code 00H.
+    pub maker: Option<[u8; 32]>,
+}
+
+/// 34: "command asked is not served, or its Command is neither ADR nor FFH at the master with 42H
+/// or 44H".
+fn can_be_asked(question: Question) -> bool {
+    match required_lenid(question.cid2) {
+        None => false,
+        // 4FH and 51H: the Command is ignored.
+        Some(0) => true,
+        Some(_) => {
+            question.command == question.adr
+                || question.command == GROUP && takes_group(question.adr, question.cid2)
+        }
+    }
+}
+
+/// 13: "return code other than 00H to 06H, 90H, 91H".
+fn is_return_code(code: u8) -> bool {
+    matches!(code, 0x00..=0x06 | 0x90 | 0x91)
+}
+
+/// 21: "reply's Command byte differs from the one asked (16 where that byte is missing)".
+fn expect_command(fields: &mut Fields, asked: u8) -> Result<(), Number> {
+    if fields.next_byte()? == asked {
+        Ok(())
+    } else {
+        Err(21)
+    }
+}
+
+/// 17: "bytes left over".
+fn expect_end(fields: &Fields) -> Result<(), Number> {
+    if fields.at_end() {
+        Ok(())
+    } else {
+        Err(17)
+    }
+}
+
+/// The records of 42H or 44H for the asked module, or with FFH "records are read until INFO ends".
+fn read_records<T>(
+    fields: &mut Fields,
+    group: bool,
+    members_on: usize,
+    next: fn(&mut Fields) -> Result<T, Number>,
+) -> Result<Vec<T>, Number> {
+    if !group {
+        let record = next(fields)?;
+        expect_end(fields)?;
+        return Ok(vec![record]);
+    }
+    let mut records = Vec::new();
+    while !fields.at_end() {
+        // 17: "or a thirteenth record".
+        if records.len() == 12 {
+            return Err(17);
+        }
+        records.push(next(fields)?);
+    }
+    // 22: "number of records differs from the members that are on"; "none at all is right only if
+    // no member is on".
+    if records.len() != members_on {
+        return Err(22);
+    }
+    Ok(records)
+}
+
+/// "A reply that was read with code 00H replaces the named fields of the asked record only; with
+/// FFH, of each member that is on, all or none."
+fn replace<T>(
+    lent: &mut [Module],
+    place: usize,
+    group: bool,
+    records: Vec<T>,
+    set: fn(&mut Module, T),
+) {
+    if group {
+        let members = lent.iter_mut().filter(|member| member.on == 1);
+        for (member, record) in members.zip(records) {
+            set(member, record);
+        }
+    } else {
+        for record in records {
+            set(&mut lent[place], record);
+        }
+    }
+}
+
+/// Reads a reply to a question: "reply reader 31, 34, 23, then 1 and 3 to 8. Then 11, 12, 13, 14,
+/// 21 (16 where that byte is missing), then the record in byte order, then 17, then 22."
+pub fn read_reply(
+    lent: &mut [Module],
+    question: Question,
+    stretch: &[u8],
+) -> Result<Reply, Number> {
+    table::rule(lent)?;
+    if !can_be_asked(question) {
+        return Err(34);
+    }
+    // 23: "ADR asked is not in the table".
+    let place = table::place(lent, question.adr).ok_or(23)?;
+    let frame = judge(stretch)?;
+    // 11: "reply's ADR is not the one asked".
+    if frame.header.adr != question.adr {
+        return Err(11);
+    }
+    // 12: "reply's CID1 is not 46H".
+    if frame.header.cid1 != 0x46 {
+        return Err(12);
+    }
+    let code = frame.header.cid2;
+    if !is_return_code(code) {
+        return Err(13);
+    }
+    // 14: "INFO present with a code other than 00H".
+    if code != 0x00 && frame.lenid != 0 {
+        return Err(14);
+    }
+    let mut reply = Reply {
+        ver: frame.header.ver,
+        code,
+        flag: None,
+        maker: None,
+    };
+    // "other codes change no record".
+    if code != 0x00 {
+        return Ok(reply);
+    }
+    let info = info(stretch, frame);
+    let mut fields = Fields::new(&info);
+    let on = table::members_on(lent);
+    let group = question.command == GROUP;
+    match question.cid2 {
+        0x42 => {
+            reply.flag = Some(fields.next_byte()?);
+            expect_command(&mut fields, question.command)?;
+            let records = read_records(&mut fields, group, on, next_analog)?;
+            replace(lent, place, group, records, |m, analog| m.analog = analog);
+        }
+        0x44 => {
+            reply.flag = Some(fields.next_byte()?);
+            expect_command(&mut fields, question.command)?;
+            let records = read_records(&mut fields, group, on, next_alarm)?;
+            replace(lent, place, group, records, |m, alarm| m.alarm = alarm);
+        }
+        // "51H: 10, 2 and 20 bytes."
+        0x51 => {
+            let maker = next_bytes(&mut fields)?;
+            expect_end(&fields)?;
+            reply.maker = Some(maker);
+        }
+        0x92 => {
+            expect_command(&mut fields, question.command)?;
+            let limits = next_limits(&mut fields)?;
+            expect_end(&fields)?;
+            lent[place].limits = limits;
+        }
+        0x93 => {
+            expect_command(&mut fields, question.command)?;
+            let serial = next_bytes(&mut fields)?;
+            expect_end(&fields)?;
+            lent[place].serial = serial;
+        }
+        0x96 => {
+            expect_command(&mut fields, question.command)?;
+            let version = next_bytes(&mut fields)?;
+            expect_end(&fields)?;
+            lent[place].version = version;
+        }
+        // "4FH and 95H: none."
+        _ => expect_end(&fields)?,
+    }
+    Ok(reply)
+}
