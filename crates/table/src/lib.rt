@@ -3,7 +3,6 @@
 ghost use mathlib.Core.Path.{_≡_};
 ghost use lib.ListN.{length};
 ghost use Rattle.table.specs.Table.{isOn, blank, members, placeOf, memberAt, anyFault, countOn, oneIf, isMaster};
-
 use record::Alarm;
 use record::Analog;
 use record::Limits;
