@@ -1,9 +1,9 @@
-// The commands under CID1 46H, and what a stretch says: its number, its four bytes, LENID and the byte at INFO's first place.
+// The commands under CID1 46H, and what a stretch says: its judgement, its four bytes, LENID and the byte at INFO's first place.
 
 ghost use mathlib.Core.Path.{_≡_};
 ghost use Rattle.command.specs.Command.{kindOf, formOf, withCommand, plainTerms, termsOf};
 ghost use Rattle.frame.specs.Judge.{paper};
-ghost use Rattle.command.specs.Heard.{numberOf, heard};
+ghost use Rattle.command.specs.Heard.{numberOf, words, wordsOf};
 use frame::Header;
 use frame::Judged;
 
@@ -32,9 +32,9 @@ pub struct Terms {
     pub has_group: bool,
 }
 
-// What a stretch says; number 0 is a frame.
+// What a stretch says: the judgement, and what stands at its places.
 pub struct Heard {
-    pub number: u8,
+    pub judged: Judged,
     pub header: Header,
     pub lenid: usize,
     pub command: u8,
@@ -114,7 +114,8 @@ pub fn terms_of(kind: Kind) -> Terms
     }
 }
 
-fn number_of(judged: Judged) -> u8
+// The number of a judgement: 0 for a frame.
+pub fn number_of(judged: Judged) -> u8
     ensures { λ r. ⌜ r ≡ numberOf (paper judged) ⌝ }
 {
     match judged {
@@ -125,12 +126,12 @@ fn number_of(judged: Judged) -> u8
 
 // Judges a stretch, and reads its places where it is long enough to have them.
 pub fn hear(stretch: &[u8]) -> Heard
-    ensures { λ r. ⌜ r ≡ heard (now (stretch .entry)) ⌝ }
+    ensures { λ r. ⌜ wordsOf r ≡ words (now (stretch .entry)) ⌝ }
 {
-    let number = number_of(frame::judge(stretch));
+    let judged = frame::judge(stretch);
     if stretch.len() < 16 {
         return Heard {
-            number,
+            judged,
             header: Header {
                 ver: 0,
                 adr: 0,
@@ -143,7 +144,7 @@ pub fn hear(stretch: &[u8]) -> Heard
     }
     let header = frame::header_of(stretch);
     Heard {
-        number,
+        judged,
         header,
         lenid: (hex::word_at(stretch, 8) % 4096) as usize,
         command: hex::byte_at(stretch, 12),

@@ -17,9 +17,11 @@ number-requires : tie.Need-number-requires
 number-requires c κs = search needs
 
 returns : tie.Need-returns
+unfolding numberOf
 returns c = sym (ap (λ (j : Judged). numberOf (paper j)) (c .enum-told .given .1))
 
 returns-2 : tie.Need-returns-2
+unfolding numberOf
 returns-2 c = c .number .ensures ∙ sym (ap (λ (j : Judged). numberOf (paper j)) (c .before .before .judged .given .1))
 
 pub number-of-spec : {M : Type 1} → statement M
