@@ -4,7 +4,7 @@ use mathlib.Core.List.{List, [], _∷_}
 use Prim.Native.Nat.{ℕ, suc, _+_, _/_, _%_}
 use lib.ListN.{length, getD, take, replicate}
 use lib.IntN.{pos}
-use lib.Dec.{leb, eqb}
+use lib.Dec.{leb, ltb, eqb}
 use Rattle.record.specs.declared.Module.{Module}
 use Rattle.table.specs.declared.Table.{Table}
 
@@ -59,6 +59,9 @@ blank = record {
 unfoldable pub placeOf : ℕ → List Module → ℕ
 placeOf adr [] = 0
 placeOf adr (m ∷ ms) = cond (eqb (m .adr) adr) 0 (suc (placeOf adr ms))
+
+unfoldable pub hasMember : ℕ → List Module → Bool
+hasMember adr ms = ltb (placeOf adr ms) (length ms)
 
 -- that record; where there is none, the blank one, which is off
 unfoldable pub memberAt : ℕ → List Module → Module

@@ -2,7 +2,7 @@
 
 ghost use mathlib.Core.Path.{_≡_};
 ghost use lib.ListN.{length};
-ghost use Rattle.table.specs.Table.{isOn, blank, members, placeOf, memberAt, anyFault, countOn, oneIf, isMaster};
+ghost use Rattle.table.specs.Table.{isOn, blank, members, placeOf, hasMember, memberAt, anyFault, countOn, oneIf, isMaster};
 use record::Alarm;
 use record::Analog;
 use record::Limits;
@@ -87,6 +87,13 @@ pub fn place_of(table: Table, adr: u8) -> usize
         i += 1;
     }
     i
+}
+
+// Whether a member has an ADR.
+pub fn has_member(table: Table, adr: u8) -> bool
+    ensures { λ r. ⌜ r ≡ hasMember adr (members table) ⌝ }
+{
+    place_of(table, adr) < size(table)
 }
 
 // The member with an ADR, or the blank record, which is off.
