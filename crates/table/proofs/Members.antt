@@ -61,6 +61,10 @@ module _ (t : Table) (twelve : length (t .modules) ≡ 12) where
 -- ---- what is left
 
 module _ (t : Table) where
+  pub few-members : length (members t) ≤ t .count
+  unfolding members
+  few-members = take-few (t .count) (t .modules)
+
   pub left-member : (i : ℕ) → i < length (members t) → drop i (members t) ≡ getD (t .modules) i nil ∷ drop (i + 1) (members t)
   unfolding members
   left-member i h =
