@@ -1,6 +1,6 @@
 -- What a reply replaces: the named fields of the asked record only; with FFH, of each member that is on, in rising ADR.
 use mathlib.Core.Path.{_≡_}
-use mathlib.Core.Bool.{cond}
+use mathlib.Core.Bool.{Bool, cond, _&&_}
 use mathlib.Core.List.{List, [], _∷_}
 use Prim.Native.Nat.{ℕ}
 use lib.ListN.{set}
@@ -33,6 +33,10 @@ switchedOff m = record { adr = m .adr; on = 0; «link_fault» = m .«link_fault�
 -- the record with an ADR changed; where there is none, nothing is
 unfoldable pub replaced : ℕ → (Module → Module) → List Module → List Module
 replaced adr f ms = set ms (placeOf adr ms) (f (memberAt adr ms))
+
+-- a member that is on takes a value where one is given
+abbrev pub fitted : {A : Type 0} → (A → Module → Module) → Module → Bool → A → Module
+fitted f m given a = cond (isOn m && given) (f a m) m
 
 -- values dealt out to the members that are on, in order; a member without a value stays
 unfoldable pub dealt : {A : Type 0} → (A → Module → Module) → List Module → List A → List Module

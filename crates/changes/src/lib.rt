@@ -3,8 +3,7 @@
 ghost use mathlib.Core.Path.{_≡_};
 ghost use lib.ListN.{length, take};
 ghost use Rattle.table.specs.Table.{members};
-ghost use Rattle.changes.specs.Changes.{replaced, dealt, withAnalog, withAlarm, withLimits, withSerial, withVersion, TableIs};
-
+ghost use Rattle.changes.specs.Changes.{replaced, fitted, dealt, withAnalog, withAlarm, withLimits, withSerial, withVersion, TableIs};
 use record::Alarm;
 use record::Analog;
 use record::Limits;
@@ -86,3 +85,62 @@ pub fn with_version(table: Table, adr: u8, version: [u8; 5]) -> Table
     table
 }
 
+fn fit_analog(member: Module, given: bool, analog: Analog) -> Module
+    ensures { λ r. ⌜ r ≡ fitted withAnalog member given analog ⌝ }
+{
+    if (member.on == 1) & given {
+        let mut next = member;
+        next.analog = analog;
+        return next;
+    }
+    member
+}
+
+// The first `count` analog values, dealt out to the members that are on.
+pub fn deal_analogs(table: Table, count: usize, analogs: [Analog; 12]) -> Table
+    ensures { λ r. ⌜ TableIs table (dealt withAnalog (members table) (take count analogs)) r ⌝ }
+{
+    let n = table::size(table);
+    let mut next = table;
+    let mut i: usize = 0;
+    let mut j: usize = 0;
+    while i < n {
+        let member = next.modules[i];
+        let analog = analogs[j];
+        let fit = fit_analog(member, j < count, analog);
+        next.modules[i] = fit;
+        j += table::one(member.on == 1);
+        i += 1;
+    }
+    next
+}
+
+fn fit_alarm(member: Module, given: bool, alarm: Alarm) -> Module
+    ensures { λ r. ⌜ r ≡ fitted withAlarm member given alarm ⌝ }
+{
+    if (member.on == 1) & given {
+        let mut next = member;
+        next.alarm = alarm;
+        return next;
+    }
+    member
+}
+
+// The first `count` alarm values, dealt out to the members that are on.
+pub fn deal_alarms(table: Table, count: usize, alarms: [Alarm; 12]) -> Table
+    ensures { λ r. ⌜ TableIs table (dealt withAlarm (members table) (take count alarms)) r ⌝ }
+{
+    let n = table::size(table);
+    let mut next = table;
+    let mut i: usize = 0;
+    let mut j: usize = 0;
+    while i < n {
+        let member = next.modules[i];
+        let alarm = alarms[j];
+        let fit = fit_alarm(member, j < count, alarm);
+        next.modules[i] = fit;
+        j += table::one(member.on == 1);
+        i += 1;
+    }
+    next
+}

@@ -43,6 +43,10 @@ take-less zero l = omega arith
 take-less (suc n) [] = omega arith
 take-less (suc n) (x ∷ l) = omega (arith, take-less n l)
 
+pub one-small : (on : Bool) {n : ℕ} → n ≡ oneIf on → n ≤ 1
+one-small true e = omega arith
+one-small false e = omega arith
+
 -- ---- how many there are
 
 module _ (t : Table) (twelve : length (t .modules) ≡ 12) where

@@ -63,7 +63,7 @@ pub fn blank_module() -> Module
 }
 
 // How many records there are; a count above twelve has twelve.
-fn size(table: Table) -> usize
+pub fn size(table: Table) -> usize
     ensures { λ r. ⌜ r ≡ length (members table) ⌝ }
 {
     let count = table.count;
@@ -122,7 +122,7 @@ pub fn any_fault(table: Table) -> bool
     any
 }
 
-fn one(on: bool) -> usize
+pub fn one(on: bool) -> usize
     ensures { λ r. ⌜ r ≡ oneIf on ⌝ }
 {
     if on { 1 } else { 0 }

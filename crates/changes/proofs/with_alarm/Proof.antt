@@ -1,6 +1,8 @@
 -- The record is stored at its place, or there is none.
 use mathlib.Core.Path.{sym, _∙_}
+use Prim.Native.Nat.{_-_}
 use native.Mathlib.Omega.{arith}
+use lib.ListN.{take}
 use borrow.Author.Needs.{needs}
 use Rattle.changes.proofs.Placed.{in-range, placed, not-there}
 use Rattle.changes.specs.Changes.{withAlarm}
