@@ -7,10 +7,10 @@ ghost use Rattle.codec.specs.Reading.{reads};
 ghost use Rattle.record.specs.Alarm.{code, codes, singles, alarm};
 ghost use Rattle.readers.specs.Readings.{paper, Fills};
 ghost use Rattle.alarm_reader.specs.Nothing.{noCodes, noSingles, noAlarm};
-use refusal::Refusal;
 use fields::Next;
 use readers::Reading;
 use record::Alarm;
+use refusal::Refusal;
 
 pub struct AlarmRead {
     pub reading: Reading,

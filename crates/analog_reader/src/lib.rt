@@ -11,10 +11,10 @@ ghost use Rattle.record.specs.Analog.{measured, analog};
 ghost use Rattle.readers.specs.Readings.{paper, Fills};
 ghost use Rattle.analog_reader.specs.Capacity.{paperCapacity, afterItems};
 ghost use Rattle.analog_reader.specs.Nothing.{noList, noCapacities, noAnalog};
-use refusal::Refusal;
 use fields::Next;
 use readers::Reading;
 use record::Analog;
+use refusal::Refusal;
 
 pub struct AnalogRead {
     pub reading: Reading,

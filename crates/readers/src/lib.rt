@@ -11,9 +11,9 @@ ghost use Rattle.record.specs.Limits.{limits};
 ghost use Rattle.record.specs.Texts.{serial, version};
 ghost use Rattle.readers.specs.Readings.{paper, Fills};
 ghost use Rattle.readers.specs.Nothing.{noLimits, noSerial, noVersion, noStatus};
-use refusal::Refusal;
 use fields::Next;
 use record::Limits;
+use refusal::Refusal;
 
 // How a reading went: the place after the record, or the refusal.
 pub enum Reading {

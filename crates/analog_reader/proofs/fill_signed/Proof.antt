@@ -40,7 +40,7 @@ same-length : tie.Need-same-length Inv-loop μ-loop
 same-length c = c .before .before .before .before .loop .inv .long
 
 returns : tie.Need-returns Inv-loop μ-loop
-returns c = 
+returns c =
     let e = field-ended word (unhexes (c .before .before .before .before .before .before .args .info .now)) (c .before .before .before .before .loop .at) (c .before .before .field .result) (c .before .before .field .ensures) (c .enum-told .given .1) in
     filled-stop signed (unhexes (c .before .before .before .before .before .before .args .info .now)) (c .before .before .before .before .before .before .args .from) (length (c .before .before .before .before .before .before .args .list .now)) (c .before .before .before .before .loop .inv) (omega (arith, c .before .before .before .before .loop .inv .long)) (rw e)
 
@@ -60,7 +60,7 @@ loop-less : tie.Need-loop-less Inv-loop μ-loop
 loop-less c = omega (arith, c .before .before .before .before .before .before .loop .inv .long)
 
 loop-again : tie.Need-loop-again Inv-loop μ-loop
-loop-again c = 
+loop-again c =
     let w = field-went word (unhexes (c .before .before .before .before .before .before .before .before .args .info .now)) (c .before .before .before .before .before .before .loop .at) (c .before .before .before .before .field .result) (c .before .before .before .before .field .ensures) (bytes-unhexes (c .before .before .before .before .before .before .before .before .args .info .now)) (c .before .before .word .given .1) in
     let v = toZ-ofZ {w = w16} {z = c .signed .result} (search needs) ∙ c .signed .ensures in
     let e : signed .get (drop (c .before .before .before .before .before .before .loop .at) (unhexes (c .before .before .before .before .before .before .before .before .args .info .now))) ≡ got (toZ w16 (c .before .before .word .given .0 .0)) (drop (c .before .before .word .given .0 .1 .0) (unhexes (c .before .before .before .before .before .before .before .before .args .info .now))) = rw (w .get) in

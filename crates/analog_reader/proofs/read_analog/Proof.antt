@@ -61,7 +61,7 @@ no-analog-requires-3 c κs = search needs
 
 returns : tie.Need-returns
 unfolding analog
-returns c = 
+returns c =
     let p1 = part-went (measured 16) (0, noList 16) (unhexes (c .before .before .before .before .before .before .before .before .before .before .before .before .before .args .info .now)) (c .before .before .before .before .before .before .before .before .before .before .before .before .before .args .at) (c .before .before .before .before .before .before .before .before .before .before .before .read-cells .result .reading) (c .before .before .before .before .before .before .before .before .before .before .before .read-cells .result .count, c .before .before .before .before .before .before .before .before .before .before .before .read-cells .result .cells) (c .before .before .before .before .before .before .before .before .before .before .before .read-cells .ensures) (bytes-unhexes (c .before .before .before .before .before .before .before .before .before .before .before .before .before .args .info .now)) (c .before .before .before .before .before .before .before .before .before .reading12 .given .1) in
     let p2 = part-went (measured 8) (0, noList 8) (unhexes (c .before .before .before .before .before .before .before .before .before .before .before .before .before .args .info .now)) (c .before .before .before .before .before .before .before .before .before .reading12 .given .0 .0) (c .before .before .before .before .before .before .before .read-temperatures .result .reading) (c .before .before .before .before .before .before .before .read-temperatures .result .count, c .before .before .before .before .before .before .before .read-temperatures .result .temperatures) (c .before .before .before .before .before .before .before .read-temperatures .ensures) (bytes-unhexes (c .before .before .before .before .before .before .before .before .before .before .before .before .before .args .info .now)) (c .before .before .before .before .before .reading22 .given .1) in
     let e1 = field-ended word (unhexes (c .before .before .before .before .before .before .before .before .before .before .before .before .before .args .info .now)) (c .before .before .before .before .before .reading22 .given .0 .0) (c .before .before .before .field .result) (c .before .before .before .field .ensures) (c .before .enum-told .given .1) in
@@ -82,7 +82,7 @@ no-analog-requires-4 c κs = search needs
 
 returns-2 : tie.Need-returns-2
 unfolding analog
-returns-2 c = 
+returns-2 c =
     let p1 = part-went (measured 16) (0, noList 16) (unhexes (c .before .before .before .before .before .before .before .before .before .before .before .before .before .before .before .before .before .args .info .now)) (c .before .before .before .before .before .before .before .before .before .before .before .before .before .before .before .before .before .args .at) (c .before .before .before .before .before .before .before .before .before .before .before .before .before .before .before .read-cells .result .reading) (c .before .before .before .before .before .before .before .before .before .before .before .before .before .before .before .read-cells .result .count, c .before .before .before .before .before .before .before .before .before .before .before .before .before .before .before .read-cells .result .cells) (c .before .before .before .before .before .before .before .before .before .before .before .before .before .before .before .read-cells .ensures) (bytes-unhexes (c .before .before .before .before .before .before .before .before .before .before .before .before .before .before .before .before .before .args .info .now)) (c .before .before .before .before .before .before .before .before .before .before .before .before .before .reading12 .given .1) in
     let p2 = part-went (measured 8) (0, noList 8) (unhexes (c .before .before .before .before .before .before .before .before .before .before .before .before .before .before .before .before .before .args .info .now)) (c .before .before .before .before .before .before .before .before .before .before .before .before .before .reading12 .given .0 .0) (c .before .before .before .before .before .before .before .before .before .before .before .read-temperatures .result .reading) (c .before .before .before .before .before .before .before .before .before .before .before .read-temperatures .result .count, c .before .before .before .before .before .before .before .before .before .before .before .read-temperatures .result .temperatures) (c .before .before .before .before .before .before .before .before .before .before .before .read-temperatures .ensures) (bytes-unhexes (c .before .before .before .before .before .before .before .before .before .before .before .before .before .before .before .before .before .args .info .now)) (c .before .before .before .before .before .before .before .before .before .reading22 .given .1) in
     let w1 = field-went word (unhexes (c .before .before .before .before .before .before .before .before .before .before .before .before .before .before .before .before .before .args .info .now)) (c .before .before .before .before .before .before .before .before .before .reading22 .given .0 .0) (c .before .before .before .before .before .before .before .field .result) (c .before .before .before .before .before .before .before .field .ensures) (bytes-unhexes (c .before .before .before .before .before .before .before .before .before .before .before .before .before .before .before .before .before .args .info .now)) (c .before .before .before .before .before .amps .given .1) in
@@ -107,14 +107,14 @@ current-requires c κs = search needs
 
 returns-3 : tie.Need-returns-3
 unfolding analog
-returns-3 c = 
+returns-3 c =
     let q1 = part-stopped (measured 16) (0, noList 16) (unhexes (c .before .before .before .before .before .before .args .info .now)) (c .before .before .before .before .before .before .args .at) (c .before .before .before .before .read-cells .result .reading) (c .before .before .before .before .read-cells .result .count, c .before .before .before .before .read-cells .result .cells) (c .before .before .before .before .read-cells .ensures) (c .before .before .reading1 .given .1) in
     ap (λ (x : AnalogRead). paper (x .reading) (x .analog)) (c .no-analog .ensures)
     ∙ stops analog noAnalog (unhexes (c .before .before .before .before .before .before .args .info .now)) (c .before .before .before .before .before .before .args .at) (rw (q1))
 
 returns-4 : tie.Need-returns-4
 unfolding analog
-returns-4 c = 
+returns-4 c =
     let p1 = part-went (measured 16) (0, noList 16) (unhexes (c .before .before .before .before .before .before .before .before .before .before .args .info .now)) (c .before .before .before .before .before .before .before .before .before .before .args .at) (c .before .before .before .before .before .before .before .before .read-cells .result .reading) (c .before .before .before .before .before .before .before .before .read-cells .result .count, c .before .before .before .before .before .before .before .before .read-cells .result .cells) (c .before .before .before .before .before .before .before .before .read-cells .ensures) (bytes-unhexes (c .before .before .before .before .before .before .before .before .before .before .args .info .now)) (c .before .before .before .before .before .before .reading12 .given .1) in
     let q2 = part-stopped (measured 8) (0, noList 8) (unhexes (c .before .before .before .before .before .before .before .before .before .before .args .info .now)) (c .before .before .before .before .before .before .reading12 .given .0 .0) (c .before .before .before .before .read-temperatures .result .reading) (c .before .before .before .before .read-temperatures .result .count, c .before .before .before .before .read-temperatures .result .temperatures) (c .before .before .before .before .read-temperatures .ensures) (c .before .before .reading2 .given .1) in
     ap (λ (x : AnalogRead). paper (x .reading) (x .analog)) (c .no-analog2 .ensures)
@@ -122,7 +122,7 @@ returns-4 c =
 
 returns-5 : tie.Need-returns-5
 unfolding analog
-returns-5 c = 
+returns-5 c =
     let p1 = part-went (measured 16) (0, noList 16) (unhexes (c .before .before .before .before .before .before .before .before .before .before .before .before .before .before .before .before .before .before .before .before .before .before .args .info .now)) (c .before .before .before .before .before .before .before .before .before .before .before .before .before .before .before .before .before .before .before .before .before .before .args .at) (c .before .before .before .before .before .before .before .before .before .before .before .before .before .before .before .before .before .before .before .before .read-cells .result .reading) (c .before .before .before .before .before .before .before .before .before .before .before .before .before .before .before .before .before .before .before .before .read-cells .result .count, c .before .before .before .before .before .before .before .before .before .before .before .before .before .before .before .before .before .before .before .before .read-cells .result .cells) (c .before .before .before .before .before .before .before .before .before .before .before .before .before .before .before .before .before .before .before .before .read-cells .ensures) (bytes-unhexes (c .before .before .before .before .before .before .before .before .before .before .before .before .before .before .before .before .before .before .before .before .before .before .args .info .now)) (c .before .before .before .before .before .before .before .before .before .before .before .before .before .before .before .before .before .before .reading12 .given .1) in
     let p2 = part-went (measured 8) (0, noList 8) (unhexes (c .before .before .before .before .before .before .before .before .before .before .before .before .before .before .before .before .before .before .before .before .before .before .args .info .now)) (c .before .before .before .before .before .before .before .before .before .before .before .before .before .before .before .before .before .before .reading12 .given .0 .0) (c .before .before .before .before .before .before .before .before .before .before .before .before .before .before .before .before .read-temperatures .result .reading) (c .before .before .before .before .before .before .before .before .before .before .before .before .before .before .before .before .read-temperatures .result .count, c .before .before .before .before .before .before .before .before .before .before .before .before .before .before .before .before .read-temperatures .result .temperatures) (c .before .before .before .before .before .before .before .before .before .before .before .before .before .before .before .before .read-temperatures .ensures) (bytes-unhexes (c .before .before .before .before .before .before .before .before .before .before .before .before .before .before .before .before .before .before .before .before .before .before .args .info .now)) (c .before .before .before .before .before .before .before .before .before .before .before .before .before .before .reading22 .given .1) in
     let w1 = field-went word (unhexes (c .before .before .before .before .before .before .before .before .before .before .before .before .before .before .before .before .before .before .before .before .before .before .args .info .now)) (c .before .before .before .before .before .before .before .before .before .before .before .before .before .before .reading22 .given .0 .0) (c .before .before .before .before .before .before .before .before .before .before .before .before .field .result) (c .before .before .before .before .before .before .before .before .before .before .before .before .field .ensures) (bytes-unhexes (c .before .before .before .before .before .before .before .before .before .before .before .before .before .before .before .before .before .before .before .before .before .before .args .info .now)) (c .before .before .before .before .before .before .before .before .before .before .amps .given .1) in
@@ -133,7 +133,7 @@ returns-5 c =
 
 returns-6 : tie.Need-returns-6
 unfolding analog
-returns-6 c = 
+returns-6 c =
     let p1 = part-went (measured 16) (0, noList 16) (unhexes (c .before .before .before .before .before .before .before .before .before .before .before .before .before .before .before .before .before .before .before .before .before .before .before .before .args .info .now)) (c .before .before .before .before .before .before .before .before .before .before .before .before .before .before .before .before .before .before .before .before .before .before .before .before .args .at) (c .before .before .before .before .before .before .before .before .before .before .before .before .before .before .before .before .before .before .before .before .before .before .read-cells .result .reading) (c .before .before .before .before .before .before .before .before .before .before .before .before .before .before .before .before .before .before .before .before .before .before .read-cells .result .count, c .before .before .before .before .before .before .before .before .before .before .before .before .before .before .before .before .before .before .before .before .before .before .read-cells .result .cells) (c .before .before .before .before .before .before .before .before .before .before .before .before .before .before .before .before .before .before .before .before .before .before .read-cells .ensures) (bytes-unhexes (c .before .before .before .before .before .before .before .before .before .before .before .before .before .before .before .before .before .before .before .before .before .before .before .before .args .info .now)) (c .before .before .before .before .before .before .before .before .before .before .before .before .before .before .before .before .before .before .before .before .reading12 .given .1) in
     let p2 = part-went (measured 8) (0, noList 8) (unhexes (c .before .before .before .before .before .before .before .before .before .before .before .before .before .before .before .before .before .before .before .before .before .before .before .before .args .info .now)) (c .before .before .before .before .before .before .before .before .before .before .before .before .before .before .before .before .before .before .before .before .reading12 .given .0 .0) (c .before .before .before .before .before .before .before .before .before .before .before .before .before .before .before .before .before .before .read-temperatures .result .reading) (c .before .before .before .before .before .before .before .before .before .before .before .before .before .before .before .before .before .before .read-temperatures .result .count, c .before .before .before .before .before .before .before .before .before .before .before .before .before .before .before .before .before .before .read-temperatures .result .temperatures) (c .before .before .before .before .before .before .before .before .before .before .before .before .before .before .before .before .before .before .read-temperatures .ensures) (bytes-unhexes (c .before .before .before .before .before .before .before .before .before .before .before .before .before .before .before .before .before .before .before .before .before .before .before .before .args .info .now)) (c .before .before .before .before .before .before .before .before .before .before .before .before .before .before .before .before .reading22 .given .1) in
     let w1 = field-went word (unhexes (c .before .before .before .before .before .before .before .before .before .before .before .before .before .before .before .before .before .before .before .before .before .before .before .before .args .info .now)) (c .before .before .before .before .before .before .before .before .before .before .before .before .before .before .before .before .reading22 .given .0 .0) (c .before .before .before .before .before .before .before .before .before .before .before .before .before .before .field .result) (c .before .before .before .before .before .before .before .before .before .before .before .before .before .before .field .ensures) (bytes-unhexes (c .before .before .before .before .before .before .before .before .before .before .before .before .before .before .before .before .before .before .before .before .before .before .before .before .args .info .now)) (c .before .before .before .before .before .before .before .before .before .before .before .before .amps .given .1) in

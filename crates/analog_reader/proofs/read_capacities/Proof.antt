@@ -36,7 +36,7 @@ no-capacities-requires c κs = search needs
 
 returns : tie.Need-returns
 unfolding capacities
-returns c = 
+returns c =
     let e1 = field-ended word (unhexes (c .before .before .before .before .before .args .info .now)) (c .before .before .before .before .before .args .at) (c .before .before .before .field .result) (c .before .before .before .field .ensures) (c .before .enum-told .given .1) in
     ap (λ (x : Capacities). paper (x .reading) (x .remaining, (x .total, x .cycles))) (c .no-capacities .ensures)
     ∙ stops capacities noCapacities (unhexes (c .before .before .before .before .before .args .info .now)) (c .before .before .before .before .before .args .at) (rw (e1))
@@ -55,7 +55,7 @@ no-capacities-requires-2 c κs = search needs
 
 returns-2 : tie.Need-returns-2
 unfolding capacities
-returns-2 c = 
+returns-2 c =
     let w1 = field-went word (unhexes (c .before .before .before .before .before .before .before .before .before .args .info .now)) (c .before .before .before .before .before .before .before .before .before .args .at) (c .before .before .before .before .before .before .before .field .result) (c .before .before .before .before .before .before .before .field .ensures) (bytes-unhexes (c .before .before .before .before .before .before .before .before .before .args .info .now)) (c .before .before .before .before .before .remaining .given .1) in
     let e2 = field-ended byte (unhexes (c .before .before .before .before .before .before .before .before .before .args .info .now)) (c .before .before .before .before .before .remaining .given .0 .1 .0) (c .before .before .before .field2 .result) (c .before .before .before .field2 .ensures) (c .before .enum-told2 .given .1) in
     ap (λ (x : Capacities). paper (x .reading) (x .remaining, (x .total, x .cycles))) (c .no-capacities2 .ensures)
@@ -65,7 +65,7 @@ read-items-2-requires : tie.Need-read-items-2-requires
 read-items-2-requires c κs = search needs
 
 returns-3 : tie.Need-returns-3
-returns-3 c = 
+returns-3 c =
     let w1 = field-went word (unhexes (c .before .before .before .before .before .before .before .before .before .before .before .args .info .now)) (c .before .before .before .before .before .before .before .before .before .before .before .args .at) (c .before .before .before .before .before .before .before .before .before .field .result) (c .before .before .before .before .before .before .before .before .before .field .ensures) (bytes-unhexes (c .before .before .before .before .before .before .before .before .before .before .before .args .info .now)) (c .before .before .before .before .before .before .before .remaining .given .1) in
     let w2 = field-went byte (unhexes (c .before .before .before .before .before .before .before .before .before .before .before .args .info .now)) (c .before .before .before .before .before .before .before .remaining .given .0 .1 .0) (c .before .before .before .before .before .field2 .result) (c .before .before .before .before .before .field2 .ensures) (bytes-unhexes (c .before .before .before .before .before .before .before .before .before .before .before .args .info .now)) (c .before .before .before .items .given .1) in
     c .read-items-2 .ensures
@@ -76,7 +76,7 @@ read-items-4-requires : tie.Need-read-items-4-requires
 read-items-4-requires c κs = search needs
 
 returns-4 : tie.Need-returns-4
-returns-4 c = 
+returns-4 c =
     let w1 = field-went word (unhexes (c .before .before .before .before .before .before .before .before .before .before .before .before .args .info .now)) (c .before .before .before .before .before .before .before .before .before .before .before .before .args .at) (c .before .before .before .before .before .before .before .before .before .before .field .result) (c .before .before .before .before .before .before .before .before .before .before .field .ensures) (bytes-unhexes (c .before .before .before .before .before .before .before .before .before .before .before .before .args .info .now)) (c .before .before .before .before .before .before .before .before .remaining .given .1) in
     let w2 = field-went byte (unhexes (c .before .before .before .before .before .before .before .before .before .before .before .before .args .info .now)) (c .before .before .before .before .before .before .before .before .remaining .given .0 .1 .0) (c .before .before .before .before .before .before .field2 .result) (c .before .before .before .before .before .before .field2 .ensures) (bytes-unhexes (c .before .before .before .before .before .before .before .before .before .before .before .before .args .info .now)) (c .before .before .before .before .items .given .1) in
     c .read-items-4 .ensures
@@ -88,7 +88,7 @@ no-capacities-requires-3 c κs = search needs
 
 returns-5 : tie.Need-returns-5
 unfolding capacities
-returns-5 c = 
+returns-5 c =
     let w1 = field-went word (unhexes (c .before .before .before .before .before .before .before .before .before .before .before .before .args .info .now)) (c .before .before .before .before .before .before .before .before .before .before .before .before .args .at) (c .before .before .before .before .before .before .before .before .before .before .field .result) (c .before .before .before .before .before .before .before .before .before .before .field .ensures) (bytes-unhexes (c .before .before .before .before .before .before .before .before .before .before .before .before .args .info .now)) (c .before .before .before .before .before .before .before .before .remaining .given .1) in
     let w2 = field-went byte (unhexes (c .before .before .before .before .before .before .before .before .before .before .before .before .args .info .now)) (c .before .before .before .before .before .before .before .before .remaining .given .0 .1 .0) (c .before .before .before .before .before .before .field2 .result) (c .before .before .before .before .before .before .field2 .ensures) (bytes-unhexes (c .before .before .before .before .before .before .before .before .before .before .before .before .args .info .now)) (c .before .before .before .before .items .given .1) in
     ap (λ (x : Capacities). paper (x .reading) (x .remaining, (x .total, x .cycles))) (c .no-capacities3 .ensures)

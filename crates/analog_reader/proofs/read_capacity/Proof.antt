@@ -23,7 +23,7 @@ enum-told : tie.Need-enum-told
 enum-told c = search needs
 
 returns : tie.Need-returns
-returns c = 
+returns c =
     let e1 = field-ended word (unhexes (c .before .before .before .before .args .info .now)) (c .before .before .before .before .args .at) (c .before .before .field .result) (c .before .before .field .ensures) (c .enum-told .given .1) in
     stops three 0 (unhexes (c .before .before .before .before .args .info .now)) (c .before .before .before .before .args .at) (rw e1)
 
@@ -37,7 +37,7 @@ enum-told-2 : tie.Need-enum-told-2
 enum-told-2 c = search needs
 
 returns-2 : tie.Need-returns-2
-returns-2 c = 
+returns-2 c =
     let w1 = field-went word (unhexes (c .before .before .before .before .before .before .before .before .args .info .now)) (c .before .before .before .before .before .before .before .before .args .at) (c .before .before .before .before .before .before .field .result) (c .before .before .before .before .before .before .field .ensures) (bytes-unhexes (c .before .before .before .before .before .before .before .before .args .info .now)) (c .before .before .before .before .high .given .1) in
     let e2 = field-ended byte (unhexes (c .before .before .before .before .before .before .before .before .args .info .now)) (c .before .before .before .before .high .given .0 .1 .0) (c .before .before .field2 .result) (c .before .before .field2 .ensures) (c .enum-told2 .given .1) in
     stops three 0 (unhexes (c .before .before .before .before .before .before .before .before .args .info .now)) (c .before .before .before .before .before .before .before .before .args .at) (rw (w1 .get, e2))
@@ -55,7 +55,7 @@ add-t12 : tie.Need-add-t12
 add-t12 c = search needs
 
 returns-3 : tie.Need-returns-3
-returns-3 c = 
+returns-3 c =
     let w1 = field-went word (unhexes (c .before .before .before .before .before .before .before .before .before .args .info .now)) (c .before .before .before .before .before .before .before .before .before .args .at) (c .before .before .before .before .before .before .before .field .result) (c .before .before .before .before .before .before .before .field .ensures) (bytes-unhexes (c .before .before .before .before .before .before .before .before .before .args .info .now)) (c .before .before .before .before .before .high .given .1) in
     let w2 = field-went byte (unhexes (c .before .before .before .before .before .before .before .before .before .args .info .now)) (c .before .before .before .before .before .high .given .0 .1 .0) (c .before .before .before .field2 .result) (c .before .before .before .field2 .ensures) (bytes-unhexes (c .before .before .before .before .before .before .before .before .before .args .info .now)) (c .before .low .given .1) in
     found three 0 (unhexes (c .before .before .before .before .before .before .before .before .before .args .info .now)) (c .before .before .before .before .before .before .before .before .before .args .at) (rw (w1 .get, w2 .get)) (w2 .place)

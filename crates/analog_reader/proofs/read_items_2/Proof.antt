@@ -35,7 +35,7 @@ no-capacities-requires c κs = search needs
 
 returns : tie.Need-returns
 unfolding afterItems
-returns c = 
+returns c =
     let e1 = field-ended word (unhexes (c .before .before .before .before .before .args .info .now)) (c .before .before .before .before .before .args .at) (c .before .before .before .field .result) (c .before .before .before .field .ensures) (c .before .enum-told .given .1) in
     ap (λ (x : Capacities). paper (x .reading) (x .remaining, (x .total, x .cycles))) (c .no-capacities .ensures)
     ∙ stops-in noCapacities (unhexes (c .before .before .before .before .before .args .info .now)) (afterItems (c .before .before .before .before .before .args .remaining) false (drop (c .before .before .before .before .before .args .at) (unhexes (c .before .before .before .before .before .args .info .now)))) (rw (e1))
@@ -54,7 +54,7 @@ no-capacities-requires-2 c κs = search needs
 
 returns-2 : tie.Need-returns-2
 unfolding afterItems
-returns-2 c = 
+returns-2 c =
     let w1 = field-went word (unhexes (c .before .before .before .before .before .before .before .before .before .args .info .now)) (c .before .before .before .before .before .before .before .before .before .args .at) (c .before .before .before .before .before .before .before .field .result) (c .before .before .before .before .before .before .before .field .ensures) (bytes-unhexes (c .before .before .before .before .before .before .before .before .before .args .info .now)) (c .before .before .before .before .before .total .given .1) in
     let e2 = field-ended word (unhexes (c .before .before .before .before .before .before .before .before .before .args .info .now)) (c .before .before .before .before .before .total .given .0 .1 .0) (c .before .before .before .field2 .result) (c .before .before .before .field2 .ensures) (c .before .enum-told2 .given .1) in
     ap (λ (x : Capacities). paper (x .reading) (x .remaining, (x .total, x .cycles))) (c .no-capacities2 .ensures)
@@ -65,7 +65,7 @@ no-capacities-requires-3 c κs = search needs
 
 returns-3 : tie.Need-returns-3
 unfolding afterItems
-returns-3 c = 
+returns-3 c =
     let w1 = field-went word (unhexes (c .before .before .before .before .before .before .before .before .before .before .before .args .info .now)) (c .before .before .before .before .before .before .before .before .before .before .before .args .at) (c .before .before .before .before .before .before .before .before .before .field .result) (c .before .before .before .before .before .before .before .before .before .field .ensures) (bytes-unhexes (c .before .before .before .before .before .before .before .before .before .before .before .args .info .now)) (c .before .before .before .before .before .before .before .total .given .1) in
     let w2 = field-went word (unhexes (c .before .before .before .before .before .before .before .before .before .before .before .args .info .now)) (c .before .before .before .before .before .before .before .total .given .0 .1 .0) (c .before .before .before .before .before .field2 .result) (c .before .before .before .before .before .field2 .ensures) (bytes-unhexes (c .before .before .before .before .before .before .before .before .before .before .before .args .info .now)) (c .before .before .before .cycles .given .1) in
     ap (λ (x : Capacities). paper (x .reading) (x .remaining, (x .total, x .cycles))) (c .no-capacities3 .ensures)
@@ -76,7 +76,7 @@ no-capacities-requires-4 c κs = search needs
 
 returns-4 : tie.Need-returns-4
 unfolding afterItems
-returns-4 c = 
+returns-4 c =
     let w1 = field-went word (unhexes (c .before .before .before .before .before .before .before .before .before .before .before .before .args .info .now)) (c .before .before .before .before .before .before .before .before .before .before .before .before .args .at) (c .before .before .before .before .before .before .before .before .before .before .field .result) (c .before .before .before .before .before .before .before .before .before .before .field .ensures) (bytes-unhexes (c .before .before .before .before .before .before .before .before .before .before .before .before .args .info .now)) (c .before .before .before .before .before .before .before .before .total .given .1) in
     let w2 = field-went word (unhexes (c .before .before .before .before .before .before .before .before .before .before .before .before .args .info .now)) (c .before .before .before .before .before .before .before .before .total .given .0 .1 .0) (c .before .before .before .before .before .before .field2 .result) (c .before .before .before .before .before .before .field2 .ensures) (bytes-unhexes (c .before .before .before .before .before .before .before .before .before .before .before .before .args .info .now)) (c .before .before .before .before .cycles .given .1) in
     ap (λ (x : Capacities). paper (x .reading) (x .remaining, (x .total, x .cycles))) (c .no-capacities4 .ensures)
@@ -87,7 +87,7 @@ cast-t17 c = search needs
 
 returns-5 : tie.Need-returns-5
 unfolding afterItems
-returns-5 c = 
+returns-5 c =
     let w1 = field-went word (unhexes (c .before .before .before .before .before .before .before .before .before .before .before .args .info .now)) (c .before .before .before .before .before .before .before .before .before .before .before .args .at) (c .before .before .before .before .before .before .before .before .before .field .result) (c .before .before .before .before .before .before .before .before .before .field .ensures) (bytes-unhexes (c .before .before .before .before .before .before .before .before .before .before .before .args .info .now)) (c .before .before .before .before .before .before .before .total .given .1) in
     let w2 = field-went word (unhexes (c .before .before .before .before .before .before .before .before .before .before .before .args .info .now)) (c .before .before .before .before .before .before .before .total .given .0 .1 .0) (c .before .before .before .before .before .field2 .result) (c .before .before .before .before .before .field2 .ensures) (bytes-unhexes (c .before .before .before .before .before .before .before .before .before .before .before .args .info .now)) (c .before .before .before .cycles .given .1) in
     found-in noCapacities (unhexes (c .before .before .before .before .before .before .before .before .before .before .before .args .info .now)) (afterItems (c .before .before .before .before .before .before .before .before .before .before .before .args .remaining) false (drop (c .before .before .before .before .before .before .before .before .before .before .before .args .at) (unhexes (c .before .before .before .before .before .before .before .before .before .before .before .args .info .now)))) (rw (w1 .get, w2 .get, le-leb (c .before .before .before .before .before .before .before .before .before .before .before .args .remaining) 65000 (c .before .if1 .left), le-leb (c .before .before .before .before .before .before .before .total .given .0 .0) 65000 (c .if2 .left))) (w2 .place)

@@ -36,7 +36,7 @@ no-capacities-requires c κs = search needs
 
 returns : tie.Need-returns
 unfolding afterItems
-returns c = 
+returns c =
     let e1 = field-ended word (unhexes (c .before .before .before .before .before .args .info .now)) (c .before .before .before .before .before .args .at) (c .before .before .before .field .result) (c .before .before .before .field .ensures) (c .before .enum-told .given .1) in
     ap (λ (x : Capacities). paper (x .reading) (x .remaining, (x .total, x .cycles))) (c .no-capacities .ensures)
     ∙ stops-in noCapacities (unhexes (c .before .before .before .before .before .args .info .now)) (afterItems (c .before .before .before .before .before .args .remaining) true (drop (c .before .before .before .before .before .args .at) (unhexes (c .before .before .before .before .before .args .info .now)))) (rw (e1))
@@ -55,7 +55,7 @@ no-capacities-requires-2 c κs = search needs
 
 returns-2 : tie.Need-returns-2
 unfolding afterItems
-returns-2 c = 
+returns-2 c =
     let w1 = field-went word (unhexes (c .before .before .before .before .before .before .before .before .before .args .info .now)) (c .before .before .before .before .before .before .before .before .before .args .at) (c .before .before .before .before .before .before .before .field .result) (c .before .before .before .before .before .before .before .field .ensures) (bytes-unhexes (c .before .before .before .before .before .before .before .before .before .args .info .now)) (c .before .before .before .before .before .total .given .1) in
     let e2 = field-ended word (unhexes (c .before .before .before .before .before .before .before .before .before .args .info .now)) (c .before .before .before .before .before .total .given .0 .1 .0) (c .before .before .before .field2 .result) (c .before .before .before .field2 .ensures) (c .before .enum-told2 .given .1) in
     ap (λ (x : Capacities). paper (x .reading) (x .remaining, (x .total, x .cycles))) (c .no-capacities2 .ensures)
@@ -75,7 +75,7 @@ no-capacities-requires-3 c κs = search needs
 
 returns-3 : tie.Need-returns-3
 unfolding afterItems
-returns-3 c = 
+returns-3 c =
     let w1 = field-went word (unhexes (c .before .before .before .before .before .before .before .before .before .before .before .before .before .args .info .now)) (c .before .before .before .before .before .before .before .before .before .before .before .before .before .args .at) (c .before .before .before .before .before .before .before .before .before .before .before .field .result) (c .before .before .before .before .before .before .before .before .before .before .before .field .ensures) (bytes-unhexes (c .before .before .before .before .before .before .before .before .before .before .before .before .before .args .info .now)) (c .before .before .before .before .before .before .before .before .before .total .given .1) in
     let w2 = field-went word (unhexes (c .before .before .before .before .before .before .before .before .before .before .before .before .before .args .info .now)) (c .before .before .before .before .before .before .before .before .before .total .given .0 .1 .0) (c .before .before .before .before .before .before .before .field2 .result) (c .before .before .before .before .before .before .before .field2 .ensures) (bytes-unhexes (c .before .before .before .before .before .before .before .before .before .before .before .before .before .args .info .now)) (c .before .before .before .before .before .cycles .given .1) in
     let e3 = capacity-ended (unhexes (c .before .before .before .before .before .before .before .before .before .before .before .before .before .args .info .now)) (c .before .before .before .before .before .cycles .given .0 .1 .0) (c .before .before .before .read-capacity .result) (c .before .before .before .read-capacity .ensures) (c .before .enum-told3 .given .1) in
@@ -96,7 +96,7 @@ no-capacities-requires-4 c κs = search needs
 
 returns-4 : tie.Need-returns-4
 unfolding afterItems
-returns-4 c = 
+returns-4 c =
     let w1 = field-went word (unhexes (c .before .before .before .before .before .before .before .before .before .before .before .before .before .before .before .before .before .args .info .now)) (c .before .before .before .before .before .before .before .before .before .before .before .before .before .before .before .before .before .args .at) (c .before .before .before .before .before .before .before .before .before .before .before .before .before .before .before .field .result) (c .before .before .before .before .before .before .before .before .before .before .before .before .before .before .before .field .ensures) (bytes-unhexes (c .before .before .before .before .before .before .before .before .before .before .before .before .before .before .before .before .before .args .info .now)) (c .before .before .before .before .before .before .before .before .before .before .before .before .before .total .given .1) in
     let w2 = field-went word (unhexes (c .before .before .before .before .before .before .before .before .before .before .before .before .before .before .before .before .before .args .info .now)) (c .before .before .before .before .before .before .before .before .before .before .before .before .before .total .given .0 .1 .0) (c .before .before .before .before .before .before .before .before .before .before .before .field2 .result) (c .before .before .before .before .before .before .before .before .before .before .before .field2 .ensures) (bytes-unhexes (c .before .before .before .before .before .before .before .before .before .before .before .before .before .before .before .before .before .args .info .now)) (c .before .before .before .before .before .before .before .before .before .cycles .given .1) in
     let w3 = capacity-went (unhexes (c .before .before .before .before .before .before .before .before .before .before .before .before .before .before .before .before .before .args .info .now)) (c .before .before .before .before .before .before .before .before .before .cycles .given .0 .1 .0) (c .before .before .before .before .before .before .before .read-capacity .result) (c .before .before .before .before .before .before .before .read-capacity .ensures) (bytes-unhexes (c .before .before .before .before .before .before .before .before .before .before .before .before .before .before .before .before .before .args .info .now)) (c .before .before .before .before .before .remaining2 .given .1) in
@@ -109,7 +109,7 @@ no-capacities-requires-5 c κs = search needs
 
 returns-5 : tie.Need-returns-5
 unfolding afterItems
-returns-5 c = 
+returns-5 c =
     let w1 = field-went word (unhexes (c .before .before .before .before .before .before .before .before .before .before .before .before .before .before .before .before .before .before .before .args .info .now)) (c .before .before .before .before .before .before .before .before .before .before .before .before .before .before .before .before .before .before .before .args .at) (c .before .before .before .before .before .before .before .before .before .before .before .before .before .before .before .before .before .field .result) (c .before .before .before .before .before .before .before .before .before .before .before .before .before .before .before .before .before .field .ensures) (bytes-unhexes (c .before .before .before .before .before .before .before .before .before .before .before .before .before .before .before .before .before .before .before .args .info .now)) (c .before .before .before .before .before .before .before .before .before .before .before .before .before .before .before .total .given .1) in
     let w2 = field-went word (unhexes (c .before .before .before .before .before .before .before .before .before .before .before .before .before .before .before .before .before .before .before .args .info .now)) (c .before .before .before .before .before .before .before .before .before .before .before .before .before .before .before .total .given .0 .1 .0) (c .before .before .before .before .before .before .before .before .before .before .before .before .before .field2 .result) (c .before .before .before .before .before .before .before .before .before .before .before .before .before .field2 .ensures) (bytes-unhexes (c .before .before .before .before .before .before .before .before .before .before .before .before .before .before .before .before .before .before .before .args .info .now)) (c .before .before .before .before .before .before .before .before .before .before .before .cycles .given .1) in
     let w3 = capacity-went (unhexes (c .before .before .before .before .before .before .before .before .before .before .before .before .before .before .before .before .before .before .before .args .info .now)) (c .before .before .before .before .before .before .before .before .before .before .before .cycles .given .0 .1 .0) (c .before .before .before .before .before .before .before .before .before .read-capacity .result) (c .before .before .before .before .before .before .before .before .before .read-capacity .ensures) (bytes-unhexes (c .before .before .before .before .before .before .before .before .before .before .before .before .before .before .before .before .before .before .before .args .info .now)) (c .before .before .before .before .before .before .before .remaining2 .given .1) in
@@ -122,7 +122,7 @@ no-capacities-requires-6 c κs = search needs
 
 returns-6 : tie.Need-returns-6
 unfolding afterItems
-returns-6 c = 
+returns-6 c =
     let w1 = field-went word (unhexes (c .before .before .before .before .before .before .before .before .before .before .before .before .before .before .before .before .before .before .before .before .args .info .now)) (c .before .before .before .before .before .before .before .before .before .before .before .before .before .before .before .before .before .before .before .before .args .at) (c .before .before .before .before .before .before .before .before .before .before .before .before .before .before .before .before .before .before .field .result) (c .before .before .before .before .before .before .before .before .before .before .before .before .before .before .before .before .before .before .field .ensures) (bytes-unhexes (c .before .before .before .before .before .before .before .before .before .before .before .before .before .before .before .before .before .before .before .before .args .info .now)) (c .before .before .before .before .before .before .before .before .before .before .before .before .before .before .before .before .total .given .1) in
     let w2 = field-went word (unhexes (c .before .before .before .before .before .before .before .before .before .before .before .before .before .before .before .before .before .before .before .before .args .info .now)) (c .before .before .before .before .before .before .before .before .before .before .before .before .before .before .before .before .total .given .0 .1 .0) (c .before .before .before .before .before .before .before .before .before .before .before .before .before .before .field2 .result) (c .before .before .before .before .before .before .before .before .before .before .before .before .before .before .field2 .ensures) (bytes-unhexes (c .before .before .before .before .before .before .before .before .before .before .before .before .before .before .before .before .before .before .before .before .args .info .now)) (c .before .before .before .before .before .before .before .before .before .before .before .before .cycles .given .1) in
     let w3 = capacity-went (unhexes (c .before .before .before .before .before .before .before .before .before .before .before .before .before .before .before .before .before .before .before .before .args .info .now)) (c .before .before .before .before .before .before .before .before .before .before .before .before .cycles .given .0 .1 .0) (c .before .before .before .before .before .before .before .before .before .before .read-capacity .result) (c .before .before .before .before .before .before .before .before .before .before .read-capacity .ensures) (bytes-unhexes (c .before .before .before .before .before .before .before .before .before .before .before .before .before .before .before .before .before .before .before .before .args .info .now)) (c .before .before .before .before .before .before .before .before .remaining2 .given .1) in
@@ -135,7 +135,7 @@ no-capacities-requires-7 c κs = search needs
 
 returns-7 : tie.Need-returns-7
 unfolding afterItems
-returns-7 c = 
+returns-7 c =
     let w1 = field-went word (unhexes (c .before .before .before .before .before .before .before .before .before .before .before .before .before .before .before .before .before .before .before .before .before .args .info .now)) (c .before .before .before .before .before .before .before .before .before .before .before .before .before .before .before .before .before .before .before .before .before .args .at) (c .before .before .before .before .before .before .before .before .before .before .before .before .before .before .before .before .before .before .before .field .result) (c .before .before .before .before .before .before .before .before .before .before .before .before .before .before .before .before .before .before .before .field .ensures) (bytes-unhexes (c .before .before .before .before .before .before .before .before .before .before .before .before .before .before .before .before .before .before .before .before .before .args .info .now)) (c .before .before .before .before .before .before .before .before .before .before .before .before .before .before .before .before .before .total .given .1) in
     let w2 = field-went word (unhexes (c .before .before .before .before .before .before .before .before .before .before .before .before .before .before .before .before .before .before .before .before .before .args .info .now)) (c .before .before .before .before .before .before .before .before .before .before .before .before .before .before .before .before .before .total .given .0 .1 .0) (c .before .before .before .before .before .before .before .before .before .before .before .before .before .before .before .field2 .result) (c .before .before .before .before .before .before .before .before .before .before .before .before .before .before .before .field2 .ensures) (bytes-unhexes (c .before .before .before .before .before .before .before .before .before .before .before .before .before .before .before .before .before .before .before .before .before .args .info .now)) (c .before .before .before .before .before .before .before .before .before .before .before .before .before .cycles .given .1) in
     let w3 = capacity-went (unhexes (c .before .before .before .before .before .before .before .before .before .before .before .before .before .before .before .before .before .before .before .before .before .args .info .now)) (c .before .before .before .before .before .before .before .before .before .before .before .before .before .cycles .given .0 .1 .0) (c .before .before .before .before .before .before .before .before .before .before .before .read-capacity .result) (c .before .before .before .before .before .before .before .before .before .before .before .read-capacity .ensures) (bytes-unhexes (c .before .before .before .before .before .before .before .before .before .before .before .before .before .before .before .before .before .before .before .before .before .args .info .now)) (c .before .before .before .before .before .before .before .before .before .remaining2 .given .1) in
@@ -145,7 +145,7 @@ returns-7 c =
 
 returns-8 : tie.Need-returns-8
 unfolding afterItems
-returns-8 c = 
+returns-8 c =
     let w1 = field-went word (unhexes (c .before .before .before .before .before .before .before .before .before .before .before .before .before .before .before .before .before .before .before .before .args .info .now)) (c .before .before .before .before .before .before .before .before .before .before .before .before .before .before .before .before .before .before .before .before .args .at) (c .before .before .before .before .before .before .before .before .before .before .before .before .before .before .before .before .before .before .field .result) (c .before .before .before .before .before .before .before .before .before .before .before .before .before .before .before .before .before .before .field .ensures) (bytes-unhexes (c .before .before .before .before .before .before .before .before .before .before .before .before .before .before .before .before .before .before .before .before .args .info .now)) (c .before .before .before .before .before .before .before .before .before .before .before .before .before .before .before .before .total .given .1) in
     let w2 = field-went word (unhexes (c .before .before .before .before .before .before .before .before .before .before .before .before .before .before .before .before .before .before .before .before .args .info .now)) (c .before .before .before .before .before .before .before .before .before .before .before .before .before .before .before .before .total .given .0 .1 .0) (c .before .before .before .before .before .before .before .before .before .before .before .before .before .before .field2 .result) (c .before .before .before .before .before .before .before .before .before .before .before .before .before .before .field2 .ensures) (bytes-unhexes (c .before .before .before .before .before .before .before .before .before .before .before .before .before .before .before .before .before .before .before .before .args .info .now)) (c .before .before .before .before .before .before .before .before .before .before .before .before .cycles .given .1) in
     let w3 = capacity-went (unhexes (c .before .before .before .before .before .before .before .before .before .before .before .before .before .before .before .before .before .before .before .before .args .info .now)) (c .before .before .before .before .before .before .before .before .before .before .before .before .cycles .given .0 .1 .0) (c .before .before .before .before .before .before .before .before .before .before .read-capacity .result) (c .before .before .before .before .before .before .before .before .before .before .read-capacity .ensures) (bytes-unhexes (c .before .before .before .before .before .before .before .before .before .before .before .before .before .before .before .before .before .before .before .before .args .info .now)) (c .before .before .before .before .before .before .before .before .remaining2 .given .1) in

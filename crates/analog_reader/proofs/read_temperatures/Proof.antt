@@ -38,7 +38,7 @@ no-temperatures-requires c κs = search needs
 
 returns : tie.Need-returns
 unfolding measured
-returns c = 
+returns c =
     let e1 = field-ended byte (unhexes (c .before .before .before .before .before .args .info .now)) (c .before .before .before .before .before .args .at) (c .before .before .before .field .result) (c .before .before .before .field .ensures) (c .before .enum-told .given .1) in
     ap (λ (x : Temperatures). paper (x .reading) (x .count, x .temperatures)) (c .no-temperatures .ensures)
     ∙ stops (measured 8) (0, noList 8) (unhexes (c .before .before .before .before .before .args .info .now)) (c .before .before .before .before .before .args .at) (count-ends signed zeroSigned 8 (unhexes (c .before .before .before .before .before .args .info .now)) (c .before .before .before .before .before .args .at) e1)
@@ -48,7 +48,7 @@ no-temperatures-requires-2 c κs = search needs
 
 returns-2 : tie.Need-returns-2
 unfolding measured
-returns-2 c = 
+returns-2 c =
     let w1 = field-went byte (unhexes (c .before .before .before .before .before .before .before .args .info .now)) (c .before .before .before .before .before .before .before .args .at) (c .before .before .before .before .before .field .result) (c .before .before .before .before .before .field .ensures) (bytes-unhexes (c .before .before .before .before .before .before .before .args .info .now)) (c .before .before .before .count .given .1) in
     ap (λ (x : Temperatures). paper (x .reading) (x .count, x .temperatures)) (c .no-temperatures2 .ensures)
     ∙ stops (measured 8) (0, noList 8) (unhexes (c .before .before .before .before .before .before .before .args .info .now)) (c .before .before .before .before .before .before .before .args .at) (count-low signed zeroSigned 8 (unhexes (c .before .before .before .before .before .before .before .args .info .now)) (c .before .before .before .before .before .before .before .args .at) (c .before .before .before .count .given .0 .0) (c .before .before .before .count .given .0 .1 .0) (w1 .get) (c .before .if1 .taken))
@@ -58,7 +58,7 @@ no-temperatures-requires-3 c κs = search needs
 
 returns-3 : tie.Need-returns-3
 unfolding measured
-returns-3 c = 
+returns-3 c =
     let w1 = field-went byte (unhexes (c .before .before .before .before .before .before .before .before .args .info .now)) (c .before .before .before .before .before .before .before .before .args .at) (c .before .before .before .before .before .before .field .result) (c .before .before .before .before .before .before .field .ensures) (bytes-unhexes (c .before .before .before .before .before .before .before .before .args .info .now)) (c .before .before .before .before .count .given .1) in
     ap (λ (x : Temperatures). paper (x .reading) (x .count, x .temperatures)) (c .no-temperatures3 .ensures)
     ∙ stops (measured 8) (0, noList 8) (unhexes (c .before .before .before .before .before .before .before .before .args .info .now)) (c .before .before .before .before .before .before .before .before .args .at) (count-high signed zeroSigned 8 (unhexes (c .before .before .before .before .before .before .before .before .args .info .now)) (c .before .before .before .before .before .before .before .before .args .at) (c .before .before .before .before .count .given .0 .0) (c .before .before .before .before .count .given .0 .1 .0) (w1 .get) (c .before .before .if1 .left) (c .before .if2 .taken))
@@ -89,7 +89,7 @@ cast-t19 c = search needs
 
 returns-4 : tie.Need-returns-4
 unfolding measured
-returns-4 c = 
+returns-4 c =
     let w1 = field-went byte (unhexes (c .before .before .before .before .before .before .before .before .before .before .before .before .before .before .args .info .now)) (c .before .before .before .before .before .before .before .before .before .before .before .before .before .before .args .at) (c .before .before .before .before .before .before .before .before .before .before .before .before .field .result) (c .before .before .before .before .before .before .before .before .before .before .before .before .field .ensures) (bytes-unhexes (c .before .before .before .before .before .before .before .before .before .before .before .before .before .before .args .info .now)) (c .before .before .before .before .before .before .before .before .before .before .count .given .1) in
     let z = length-take-le (c .before .before .before .before .before .before .before .before .before .before .count .given .0 .0) (noList 8) (omega arith) in
     ap (λ (x : Temperatures). paper (x .reading) (x .count, x .temperatures)) (c .no-temperatures4 .ensures)
@@ -98,7 +98,7 @@ returns-4 c =
 
 returns-5 : tie.Need-returns-5
 unfolding measured
-returns-5 c = 
+returns-5 c =
     let w1 = field-went byte (unhexes (c .before .before .before .before .before .before .before .before .before .before .before .before .before .args .info .now)) (c .before .before .before .before .before .before .before .before .before .before .before .before .before .args .at) (c .before .before .before .before .before .before .before .before .before .before .before .field .result) (c .before .before .before .before .before .before .before .before .before .before .before .field .ensures) (bytes-unhexes (c .before .before .before .before .before .before .before .before .before .before .before .before .before .args .info .now)) (c .before .before .before .before .before .before .before .before .before .count .given .1) in
     let z = length-take-le (c .before .before .before .before .before .before .before .before .before .count .given .0 .0) (noList 8) (omega arith) in
     let f = list-went signed (unhexes (c .before .before .before .before .before .before .before .before .before .before .before .before .before .args .info .now)) (c .before .before .before .before .before .before .before .before .before .count .given .0 .1 .0) (length (take (c .before .before .before .before .before .before .before .before .before .count .given .0 .0) (noList 8))) (c .before .before .before .before .fill-signed .result) (c .before .before .before .before .fill-signed .last .1 .1 .0) (c .before .before .before .before .fill-signed .ensures) (c .before .filled2 .given .1) in

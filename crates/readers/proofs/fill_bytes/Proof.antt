@@ -35,7 +35,7 @@ same-length : tie.Need-same-length Inv-loop μ-loop
 same-length c = c .before .before .before .before .loop .inv .long
 
 returns : tie.Need-returns Inv-loop μ-loop
-returns c = 
+returns c =
     let e = field-ended byte (unhexes (c .before .before .before .before .before .before .before .args .info .now)) (c .before .before .before .before .loop .at) (c .before .before .field .result) (c .before .before .field .ensures) (c .enum-told .given .1) in
     filled-stop byte (unhexes (c .before .before .before .before .before .before .before .args .info .now)) (c .before .before .before .before .before .before .before .args .from) (length (c .before .before .before .before .before .before .before .args .list .now)) (c .before .before .before .before .loop .inv) (omega (arith, c .before .before .before .before .loop .inv .long)) (rw e)
 
@@ -52,7 +52,7 @@ loop-less : tie.Need-loop-less Inv-loop μ-loop
 loop-less c = omega (arith, c .before .before .before .before .before .loop .inv .long)
 
 loop-again : tie.Need-loop-again Inv-loop μ-loop
-loop-again c = 
+loop-again c =
     let w = field-went byte (unhexes (c .before .before .before .before .before .before .before .before .args .info .now)) (c .before .before .before .before .before .loop .at) (c .before .before .before .field .result) (c .before .before .before .field .ensures) (bytes-unhexes (c .before .before .before .before .before .before .before .before .args .info .now)) (c .before .value .given .1) in
     filled-more byte (unhexes (c .before .before .before .before .before .before .before .before .args .info .now)) (c .before .before .before .before .before .before .before .before .args .from) (length (c .before .before .before .before .before .before .before .before .args .list .now)) (c .before .before .before .before .before .loop .inv) (omega (arith, c .before .before .before .before .before .loop .inv .long)) (w .get) (w .place)
 

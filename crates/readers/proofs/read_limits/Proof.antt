@@ -33,7 +33,7 @@ no-limits-requires c κs = search needs
 
 returns : tie.Need-returns
 unfolding limits
-returns c = 
+returns c =
     let e1 = field-ended word (unhexes (c .before .before .before .before .before .args .info .now)) (c .before .before .before .before .before .args .at) (c .before .before .before .field .result) (c .before .before .before .field .ensures) (c .before .enum-told .given .1) in
     ap (λ (x : LimitsRead). paper (x .reading) (x .limits)) (c .no-limits .ensures)
     ∙ stops limits noLimits (unhexes (c .before .before .before .before .before .args .info .now)) (c .before .before .before .before .before .args .at) (rw (e1))
@@ -52,7 +52,7 @@ no-limits-requires-2 c κs = search needs
 
 returns-2 : tie.Need-returns-2
 unfolding limits
-returns-2 c = 
+returns-2 c =
     let w1 = field-went word (unhexes (c .before .before .before .before .before .before .before .before .before .args .info .now)) (c .before .before .before .before .before .before .before .before .before .args .at) (c .before .before .before .before .before .before .before .field .result) (c .before .before .before .before .before .before .before .field .ensures) (bytes-unhexes (c .before .before .before .before .before .before .before .before .before .args .info .now)) (c .before .before .before .before .before .charge-voltage .given .1) in
     let e2 = field-ended word (unhexes (c .before .before .before .before .before .before .before .before .before .args .info .now)) (c .before .before .before .before .before .charge-voltage .given .0 .1 .0) (c .before .before .before .field2 .result) (c .before .before .before .field2 .ensures) (c .before .enum-told2 .given .1) in
     ap (λ (x : LimitsRead). paper (x .reading) (x .limits)) (c .no-limits2 .ensures)
@@ -72,7 +72,7 @@ no-limits-requires-3 c κs = search needs
 
 returns-3 : tie.Need-returns-3
 unfolding limits
-returns-3 c = 
+returns-3 c =
     let w1 = field-went word (unhexes (c .before .before .before .before .before .before .before .before .before .before .before .before .before .args .info .now)) (c .before .before .before .before .before .before .before .before .before .before .before .before .before .args .at) (c .before .before .before .before .before .before .before .before .before .before .before .field .result) (c .before .before .before .before .before .before .before .before .before .before .before .field .ensures) (bytes-unhexes (c .before .before .before .before .before .before .before .before .before .before .before .before .before .args .info .now)) (c .before .before .before .before .before .before .before .before .before .charge-voltage .given .1) in
     let w2 = field-went word (unhexes (c .before .before .before .before .before .before .before .before .before .before .before .before .before .args .info .now)) (c .before .before .before .before .before .before .before .before .before .charge-voltage .given .0 .1 .0) (c .before .before .before .before .before .before .before .field2 .result) (c .before .before .before .before .before .before .before .field2 .ensures) (bytes-unhexes (c .before .before .before .before .before .before .before .before .before .before .before .before .before .args .info .now)) (c .before .before .before .before .before .discharge-voltage .given .1) in
     let e3 = field-ended word (unhexes (c .before .before .before .before .before .before .before .before .before .before .before .before .before .args .info .now)) (c .before .before .before .before .before .discharge-voltage .given .0 .1 .0) (c .before .before .before .field3 .result) (c .before .before .before .field3 .ensures) (c .before .enum-told3 .given .1) in
@@ -93,7 +93,7 @@ no-limits-requires-4 c κs = search needs
 
 returns-4 : tie.Need-returns-4
 unfolding limits
-returns-4 c = 
+returns-4 c =
     let w1 = field-went word (unhexes (c .before .before .before .before .before .before .before .before .before .before .before .before .before .before .before .before .before .args .info .now)) (c .before .before .before .before .before .before .before .before .before .before .before .before .before .before .before .before .before .args .at) (c .before .before .before .before .before .before .before .before .before .before .before .before .before .before .before .field .result) (c .before .before .before .before .before .before .before .before .before .before .before .before .before .before .before .field .ensures) (bytes-unhexes (c .before .before .before .before .before .before .before .before .before .before .before .before .before .before .before .before .before .args .info .now)) (c .before .before .before .before .before .before .before .before .before .before .before .before .before .charge-voltage .given .1) in
     let w2 = field-went word (unhexes (c .before .before .before .before .before .before .before .before .before .before .before .before .before .before .before .before .before .args .info .now)) (c .before .before .before .before .before .before .before .before .before .before .before .before .before .charge-voltage .given .0 .1 .0) (c .before .before .before .before .before .before .before .before .before .before .before .field2 .result) (c .before .before .before .before .before .before .before .before .before .before .before .field2 .ensures) (bytes-unhexes (c .before .before .before .before .before .before .before .before .before .before .before .before .before .before .before .before .before .args .info .now)) (c .before .before .before .before .before .before .before .before .before .discharge-voltage .given .1) in
     let w3 = field-went word (unhexes (c .before .before .before .before .before .before .before .before .before .before .before .before .before .before .before .before .before .args .info .now)) (c .before .before .before .before .before .before .before .before .before .discharge-voltage .given .0 .1 .0) (c .before .before .before .before .before .before .before .field3 .result) (c .before .before .before .before .before .before .before .field3 .ensures) (bytes-unhexes (c .before .before .before .before .before .before .before .before .before .before .before .before .before .before .before .before .before .args .info .now)) (c .before .before .before .before .before .charge .given .1) in
@@ -115,7 +115,7 @@ no-limits-requires-5 c κs = search needs
 
 returns-5 : tie.Need-returns-5
 unfolding limits
-returns-5 c = 
+returns-5 c =
     let w1 = field-went word (unhexes (c .before .before .before .before .before .before .before .before .before .before .before .before .before .before .before .before .before .before .before .before .before .args .info .now)) (c .before .before .before .before .before .before .before .before .before .before .before .before .before .before .before .before .before .before .before .before .before .args .at) (c .before .before .before .before .before .before .before .before .before .before .before .before .before .before .before .before .before .before .before .field .result) (c .before .before .before .before .before .before .before .before .before .before .before .before .before .before .before .before .before .before .before .field .ensures) (bytes-unhexes (c .before .before .before .before .before .before .before .before .before .before .before .before .before .before .before .before .before .before .before .before .before .args .info .now)) (c .before .before .before .before .before .before .before .before .before .before .before .before .before .before .before .before .before .charge-voltage .given .1) in
     let w2 = field-went word (unhexes (c .before .before .before .before .before .before .before .before .before .before .before .before .before .before .before .before .before .before .before .before .before .args .info .now)) (c .before .before .before .before .before .before .before .before .before .before .before .before .before .before .before .before .before .charge-voltage .given .0 .1 .0) (c .before .before .before .before .before .before .before .before .before .before .before .before .before .before .before .field2 .result) (c .before .before .before .before .before .before .before .before .before .before .before .before .before .before .before .field2 .ensures) (bytes-unhexes (c .before .before .before .before .before .before .before .before .before .before .before .before .before .before .before .before .before .before .before .before .before .args .info .now)) (c .before .before .before .before .before .before .before .before .before .before .before .before .before .discharge-voltage .given .1) in
     let w3 = field-went word (unhexes (c .before .before .before .before .before .before .before .before .before .before .before .before .before .before .before .before .before .before .before .before .before .args .info .now)) (c .before .before .before .before .before .before .before .before .before .before .before .before .before .discharge-voltage .given .0 .1 .0) (c .before .before .before .before .before .before .before .before .before .before .before .field3 .result) (c .before .before .before .before .before .before .before .before .before .before .before .field3 .ensures) (bytes-unhexes (c .before .before .before .before .before .before .before .before .before .before .before .before .before .before .before .before .before .before .before .before .before .args .info .now)) (c .before .before .before .before .before .before .before .before .before .charge .given .1) in
@@ -135,7 +135,7 @@ cast-t26 c = let w5 = field-went byte (unhexes (c .before .before .before .befor
 
 returns-6 : tie.Need-returns-6
 unfolding limits
-returns-6 c = 
+returns-6 c =
     let w1 = field-went word (unhexes (c .before .before .before .before .before .before .before .before .before .before .before .before .before .before .before .before .before .before .before .before .before .before .before .args .info .now)) (c .before .before .before .before .before .before .before .before .before .before .before .before .before .before .before .before .before .before .before .before .before .before .before .args .at) (c .before .before .before .before .before .before .before .before .before .before .before .before .before .before .before .before .before .before .before .before .before .field .result) (c .before .before .before .before .before .before .before .before .before .before .before .before .before .before .before .before .before .before .before .before .before .field .ensures) (bytes-unhexes (c .before .before .before .before .before .before .before .before .before .before .before .before .before .before .before .before .before .before .before .before .before .before .before .args .info .now)) (c .before .before .before .before .before .before .before .before .before .before .before .before .before .before .before .before .before .before .before .charge-voltage .given .1) in
     let w2 = field-went word (unhexes (c .before .before .before .before .before .before .before .before .before .before .before .before .before .before .before .before .before .before .before .before .before .before .before .args .info .now)) (c .before .before .before .before .before .before .before .before .before .before .before .before .before .before .before .before .before .before .before .charge-voltage .given .0 .1 .0) (c .before .before .before .before .before .before .before .before .before .before .before .before .before .before .before .before .before .field2 .result) (c .before .before .before .before .before .before .before .before .before .before .before .before .before .before .before .before .before .field2 .ensures) (bytes-unhexes (c .before .before .before .before .before .before .before .before .before .before .before .before .before .before .before .before .before .before .before .before .before .before .before .args .info .now)) (c .before .before .before .before .before .before .before .before .before .before .before .before .before .before .before .discharge-voltage .given .1) in
     let w3 = field-went word (unhexes (c .before .before .before .before .before .before .before .before .before .before .before .before .before .before .before .before .before .before .before .before .before .before .before .args .info .now)) (c .before .before .before .before .before .before .before .before .before .before .before .before .before .before .before .discharge-voltage .given .0 .1 .0) (c .before .before .before .before .before .before .before .before .before .before .before .before .before .field3 .result) (c .before .before .before .before .before .before .before .before .before .before .before .before .before .field3 .ensures) (bytes-unhexes (c .before .before .before .before .before .before .before .before .before .before .before .before .before .before .before .before .before .before .before .before .before .before .before .args .info .now)) (c .before .before .before .before .before .before .before .before .before .before .before .charge .given .1) in

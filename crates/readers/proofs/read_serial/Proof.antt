@@ -33,13 +33,13 @@ enum-known-filled-2 c = search needs
 
 returns : tie.Need-returns
 unfolding serial
-returns c = 
+returns c =
     ap (λ (x : SerialRead). paper (x .reading) (x .serial)) (c .no-serial .ensures)
     ∙ stops serial noSerial (unhexes (c .before .before .before .before .before .before .before .before .args .info .now)) (c .before .before .before .before .before .before .before .before .args .at) (list-stopped byte (unhexes (c .before .before .before .before .before .before .before .before .args .info .now)) (c .before .before .before .before .before .before .before .before .args .at) 16 (c .before .before .before .before .before .fill-bytes .result) (c .before .before .before .before .before .fill-bytes .last .1 .1 .0) (c .before .before .before .before .before .fill-bytes .ensures) (c .before .before .filled .given .1))
 
 returns-2 : tie.Need-returns-2
 unfolding serial
-returns-2 c = 
+returns-2 c =
     let f = list-went byte (unhexes (c .before .before .before .before .before .before .before .args .info .now)) (c .before .before .before .before .before .before .before .args .at) 16 (c .before .before .before .before .fill-bytes .result) (c .before .before .before .before .fill-bytes .last .1 .1 .0) (c .before .before .before .before .fill-bytes .ensures) (c .before .filled2 .given .1) in
     found serial noSerial (unhexes (c .before .before .before .before .before .before .before .args .info .now)) (c .before .before .before .before .before .before .before .args .at) (f .0) (f .1 (omega arith))
 

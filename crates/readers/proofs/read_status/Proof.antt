@@ -32,12 +32,12 @@ enum-known-filled-2 : tie.Need-enum-known-filled-2
 enum-known-filled-2 c = search needs
 
 returns : tie.Need-returns
-returns c = 
+returns c =
     ap (λ (x : StatusRead). paper (x .reading) (x .status)) (c .no-status .ensures)
     ∙ stops (row byte 5) noStatus (unhexes (c .before .before .before .before .before .before .before .before .args .info .now)) (c .before .before .before .before .before .before .before .before .args .at) (list-stopped byte (unhexes (c .before .before .before .before .before .before .before .before .args .info .now)) (c .before .before .before .before .before .before .before .before .args .at) 5 (c .before .before .before .before .before .fill-bytes .result) (c .before .before .before .before .before .fill-bytes .last .1 .1 .0) (c .before .before .before .before .before .fill-bytes .ensures) (c .before .before .filled .given .1))
 
 returns-2 : tie.Need-returns-2
-returns-2 c = 
+returns-2 c =
     let f = list-went byte (unhexes (c .before .before .before .before .before .before .before .args .info .now)) (c .before .before .before .before .before .before .before .args .at) 5 (c .before .before .before .before .fill-bytes .result) (c .before .before .before .before .fill-bytes .last .1 .1 .0) (c .before .before .before .before .fill-bytes .ensures) (c .before .filled2 .given .1) in
     found (row byte 5) noStatus (unhexes (c .before .before .before .before .before .before .before .args .info .now)) (c .before .before .before .before .before .before .before .args .at) (f .0) (f .1 (omega arith))
 

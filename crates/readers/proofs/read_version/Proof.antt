@@ -33,13 +33,13 @@ enum-known-filled-2 c = search needs
 
 returns : tie.Need-returns
 unfolding version
-returns c = 
+returns c =
     ap (λ (x : VersionRead). paper (x .reading) (x .version)) (c .no-version .ensures)
     ∙ stops version noVersion (unhexes (c .before .before .before .before .before .before .before .before .args .info .now)) (c .before .before .before .before .before .before .before .before .args .at) (list-stopped byte (unhexes (c .before .before .before .before .before .before .before .before .args .info .now)) (c .before .before .before .before .before .before .before .before .args .at) 5 (c .before .before .before .before .before .fill-bytes .result) (c .before .before .before .before .before .fill-bytes .last .1 .1 .0) (c .before .before .before .before .before .fill-bytes .ensures) (c .before .before .filled .given .1))
 
 returns-2 : tie.Need-returns-2
 unfolding version
-returns-2 c = 
+returns-2 c =
     let f = list-went byte (unhexes (c .before .before .before .before .before .before .before .args .info .now)) (c .before .before .before .before .before .before .before .args .at) 5 (c .before .before .before .before .fill-bytes .result) (c .before .before .before .before .fill-bytes .last .1 .1 .0) (c .before .before .before .before .fill-bytes .ensures) (c .before .filled2 .given .1) in
     found version noVersion (unhexes (c .before .before .before .before .before .before .before .args .info .now)) (c .before .before .before .before .before .before .before .args .at) (f .0) (f .1 (omega arith))
 
