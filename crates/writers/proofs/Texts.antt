@@ -6,6 +6,7 @@ use Prim.Native.Nat.{ℕ, zero, suc, _<_}
 use lib.ListN.{length}
 use lib.Dec.{T, ltb}
 use mir.Facts.{and-yes}
+use denote.Floats.{is-true}
 use borrow.Author.Tests.{lt-ltb, eq-eqb}
 use Rattle.codec.specs.Codec.{Codec, byte}
 use Rattle.codec.specs.Both.{_then_}
@@ -29,10 +30,6 @@ serial-text = row-bytes byte (λ a. refl)
 pub version-text : (l : List ℕ) → version .put l ≡ l
 unfolding version
 version-text = row-bytes byte (λ a. refl)
-
-is-true : (b : Bool) → T b → b ≡ true
-is-true true t = refl
-is-true false t = absurd t
 
 pub row-length : (n : ℕ) (l : List ℕ) → T (row-ok byte n l) → length l ≡ n
 row-length zero [] t = refl
