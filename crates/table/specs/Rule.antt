@@ -10,7 +10,8 @@ use Rattle.record.specs.Analog.{analog}
 use Rattle.record.specs.Alarm.{alarm}
 use Rattle.record.specs.Limits.{limits}
 use Rattle.record.specs.Texts.{serial, version}
-use Rattle.table.specs.Table.{blank}
+use Rattle.table.specs.declared.Table.{Table}
+use Rattle.table.specs.Table.{blank, members}
 
 -- every value can be encoded (list places beyond M or N are 0 then)
 unfoldable pub encodable : Module → Bool
@@ -27,3 +28,7 @@ rising m last (x ∷ xs) = ((fine x && ltb last (x .adr)) && eqb (x .adr / 16) m
 
 unfoldable pub rule : List Module → Bool
 rule ms = (leb 1 (length ms) && leb (length ms) 12) && rising (getD ms 0 blank .adr / 16) 0 ms
+
+-- a table by value whose count is that of its records
+unfoldable pub keeps : Table → Bool
+keeps t = leb (t .count) 12 && rule (members t)
