@@ -18,6 +18,7 @@ use Rattle.record.specs.Texts.{serial, version}
 use Rattle.table.specs.declared.Table.{Table}
 use Rattle.table.specs.Table.{blank, members}
 use Rattle.table.specs.Rule.{encodable, fine, rising, rule, keeps}
+use Rattle.table.proofs.Members.{nil, member-is, size-count}
 use Rattle.rules.proofs.Rules.{is-true}
 
 -- the parts of a true `&&`
@@ -90,3 +91,12 @@ record-fine ms e i h d = fine-parts (getD ms i d) (rising-fine (getD ms 0 blank 
 pub keeps-parts : (t : Table) → keeps t ≡ true → (t .count ≤ 12) × (rule (members t) ≡ true)
 unfolding keeps
 keeps-parts t e = let a = both-true (leb (t .count) 12) (rule (members t)) e in (leb-true (t .count) 12 (a .0), a .1)
+
+module _ (t : Table) (twelve : length (t .modules) ≡ 12) (e : keeps t ≡ true) where
+  pub count-is : t .count ≡ length (members t)
+  count-is = size-count t twelve (keeps-parts t e .0)
+
+  pub place-fine : (i : ℕ) → i < t .count → Fine (getD (t .modules) i nil)
+  place-fine i h =
+      let l : i < length (members t) = omega (arith, count-is) in
+      subst Fine (sym (member-is t i l)) (record-fine (members t) (keeps-parts t e .1) i l blank)
