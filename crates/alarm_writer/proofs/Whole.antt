@@ -1,11 +1,11 @@
 -- A 44H record as a whole: when it can be written, its parts, and its length.
-use mathlib.Core.Path.{_≡_, refl, sym, ap, _∙_, subst}
-use mathlib.Core.Bool.{Bool, true, false, _&&_, and-true}
-use mathlib.Core.List.{List, [], _∷_, _++_}
-use Prim.Native.Nat.{ℕ, _+_, _<_, _≤_}
+use mathlib.Core.Path.{_≡_, refl, sym, subst}
+use mathlib.Core.Bool.{Bool, true, _&&_, and-true}
+use mathlib.Core.List.{[], _∷_, _++_}
+use Prim.Native.Nat.{_<_}
 use native.Mathlib.Omega.{arith}
 use lib.ListN.{length, length-append}
-use lib.Dec.{T, ltb}
+use lib.Dec.{T}
 use mir.Facts.{and-yes}
 use denote.Floats.{is-true}
 use borrow.Author.Tests.{lt-ltb}

@@ -1,13 +1,13 @@
 -- A count and its list: what the tests of the code decide, and that they are the format's.
 use mathlib.Core.Path.{_≡_, refl, sym, ap, _∙_}
-use mathlib.Core.Bool.{Bool, true, false, _&&_}
-use mathlib.Core.List.{List, _∷_}
+use mathlib.Core.Bool.{true, false, _&&_}
+use mathlib.Core.List.{List}
 use Prim.Native.Nat.{ℕ, suc, _+_, _*_, _-_, _<_, _≤_}
 use native.Mathlib.Omega.{arith}
 use lib.ListN.{length, take, drop}
 use lib.Seq.{length-take-le}
 use lib.IntN.{ℤ, pos, negsuc}
-use lib.Dec.{T, leb}
+use lib.Dec.{leb}
 use mir.Syntax.{w16}
 use mir.Val.{ofZ, SFits}
 use denote.Floats.{is-true}
@@ -55,10 +55,6 @@ module _ (n : ℕ) (l : List ℤ) where
     pub measured-parts : measured K .ok (n, l) ≡ true → (n ≤ K) × (length l ≡ K)
     unfolding measured
     measured-parts = count-parts signed zeroSigned K n l
-
-    pub measured-text : measured K .put (n, l) ≡ listText n l
-    unfolding measured listText
-    measured-text = refl
 
     pub text-length : measured K .ok (n, l) ≡ true → length (listText n l) ≡ 1 + 2 * n
     unfolding listText

@@ -1,9 +1,9 @@
 -- A 42H record as a whole: when it can be written, its parts, and its length.
-use mathlib.Core.Path.{_≡_, refl, sym, ap, _∙_, subst}
-use mathlib.Core.Bool.{Bool, true, false, _&&_, and-true}
-use mathlib.Core.List.{List, _++_}
+use mathlib.Core.Path.{_≡_, refl, sym, subst}
+use mathlib.Core.Bool.{Bool, true, _&&_, and-true}
+use mathlib.Core.List.{_++_}
 use mathlib.Core.Logic.{⊎-elim}
-use Prim.Native.Nat.{ℕ, _+_, _*_, _<_, _≤_}
+use Prim.Native.Nat.{ℕ, _<_, _≤_}
 use native.Mathlib.Omega.{arith}
 use lib.ListN.{length, length-append}
 use lib.Signed.{mag}
@@ -20,7 +20,7 @@ use Rattle.record.specs.Analog.{measured, analog}
 use Rattle.record.proofs.Typed.{AnalogTyped}
 use Rattle.analog_writer.specs.List.{listFine, listText}
 use Rattle.analog_writer.specs.Size.{analogSize}
-use Rattle.analog_writer.proofs.Lists.{measured-fine, measured-text, text-length}
+use Rattle.analog_writer.proofs.Lists.{measured-fine, text-length}
 use Rattle.analog_writer.proofs.Amounts.{short-length, long-length}
 
 module _ (a : Analog) (t : AnalogTyped a) (m : a .«cell_count» < 256) (n : a .«temperature_count» < 256) where

@@ -4,8 +4,8 @@ use mathlib.Core.List.{List, [], _++_}
 use Prim.Native.Nat.{ℕ}
 use lib.Dec.{T}
 use Rattle.hex.specs.Hex.{Bytes}
-use Rattle.codec.specs.Codec.{Codec, Got, got, got-value}
-use Rattle.codec.specs.Whole.{Whole, Told, told, told-value}
+use Rattle.codec.specs.Codec.{Codec, got, got-value}
+use Rattle.codec.specs.Whole.{Whole, told, told-value}
 
 pub record Inverse {A : Type 0} (c : Codec A) : Type 0 where
   -- reading what was written returns the record, and leaves what stands after it

@@ -11,7 +11,7 @@ use lib.Dec.{T, leb, nleb→lt, leb→le}
 use Rattle.buffer.proofs.Lists.{never}
 use Rattle.hex.specs.Hex.{Bytes}
 use Rattle.codec.specs.Codec.{Codec, Got, got, no}
-use Rattle.codec.specs.Reading.{Outcome, read, refused, outcome, reads}
+use Rattle.codec.specs.Reading.{read, refused, outcome, reads}
 
 pub le-or-lt : (a b : ℕ) → (a ≤ b) ⊎ (b < a)
 le-or-lt a b = go (leb a b) (leb→le a b) (nleb→lt a b)

@@ -1,7 +1,7 @@
 -- One part after the other; what the second is may go by the first's value.
 use mathlib.Core.Path.{_≡_, sym, _∙_, ap, subst}
 use mathlib.Core.List.{List, _++_, append-assoc}
-use mathlib.Core.Bool.{Bool, _&&_}
+use mathlib.Core.Bool.{_&&_}
 use Prim.Native.Nat.{ℕ}
 use lib.Dec.{T}
 use mir.Facts.{and-yes, yes-and}

@@ -8,7 +8,7 @@ use native.Mathlib.Nat.{le-of-suc-le-suc, not-suc-le-zero}
 use lib.ListN.{length, take, drop}
 use lib.Dec.{T, leb, ltb, eqb, leb→le, eqb→eq}
 use mir.Facts.{and-yes, yes-and, yes-eqb}
-use Rattle.codec.specs.Codec.{Codec, Got, got, andThen, byte}
+use Rattle.codec.specs.Codec.{Codec, byte}
 use Rattle.codec.specs.Both.{both}
 use Rattle.codec.specs.Tested.{tested}
 use Rattle.codec.specs.Seen.{Between, seen}
@@ -105,10 +105,6 @@ module _ {A : Type 0} (c : Codec A) (o : Zero A) where
           let w = and-yes (leb 1 (x .0)) (leb (x .0) K) (v .0) in
           λ i. (x .0, row-take (x .0) K (x .1) (leb→le (x .0) K (w .1)) (u .1) .0 i);
     }
-
-    -- once the count is read: that many values, and zeros in the places beyond
-    abbrev pub after-count : ℕ → List ℕ → Got (ℕ × List A)
-    after-count n s = andThen (row c n .get s) (λ l r. got (n, padTo (o .zero) K l) r)
 
     abbrev pub counted : Codec (ℕ × List A)
     counted = seen listed padded cut counted-ok counted-between

@@ -1,7 +1,7 @@
 -- A whole INFO: the bytes end with the value; bytes left over are refusal 17.
 use mathlib.Core.Path.{_≡_, refl, sym, _∙_, ap, subst}
 use mathlib.Core.List.{List, [], _∷_, _++_, append-nil}
-use mathlib.Core.Bool.{Bool, true, false, _&&_}
+use mathlib.Core.Bool.{Bool, _&&_}
 use Prim.Native.Nat.{ℕ}
 use lib.Dec.{T}
 use mir.Facts.{and-yes, yes-and}

@@ -1,5 +1,5 @@
 -- A reader's answer is determined: two that its contract allows for one INFO and one place are equal.
-use mathlib.Core.Path.{_≡_, refl, sym, ap, _∙_}
+use mathlib.Core.Path.{_≡_, sym, ap, _∙_}
 use mathlib.Core.List.{List}
 use Prim.Native.Nat.{ℕ}
 use Rattle.buffer.proofs.Lists.{never}

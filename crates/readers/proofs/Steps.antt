@@ -6,7 +6,7 @@ use lib.ListN.{length, drop}
 use Rattle.refusal.specs.declared.Refusal.{Refusal}
 use Rattle.refusal.specs.Number.{number}
 use Rattle.hex.specs.Hex.{Bytes}
-use Rattle.codec.specs.Codec.{Codec, Got, got, no}
+use Rattle.codec.specs.Codec.{Codec, got, no}
 use Rattle.codec.specs.Row.{row}
 use Rattle.codec.specs.Reading.{reads}
 use Rattle.codec.proofs.Places.{Went, went, stopped}

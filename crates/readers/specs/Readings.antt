@@ -4,7 +4,7 @@ use mathlib.Core.List.{List}
 use Prim.Native.Nat.{ℕ, _<_, _≤_}
 use lib.ListN.{length, drop}
 use Rattle.refusal.specs.Number.{number}
-use Rattle.codec.specs.Codec.{Codec, Got, got, no}
+use Rattle.codec.specs.Codec.{Codec, got, no}
 use Rattle.codec.specs.Row.{row}
 use Rattle.codec.specs.Reading.{Outcome, read, refused}
 use Rattle.readers.specs.declared.Reading.{Reading}

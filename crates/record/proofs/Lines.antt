@@ -1,11 +1,11 @@
 -- The paper's lines on records, computed: temperatures, currents, the two sides of 65 Ah, and 92H.
 use mathlib.Core.Path.{_≡_, refl}
-use mathlib.Core.List.{List, [], _∷_}
-use lib.IntN.{ℤ, pos, negsuc}
+use mathlib.Core.List.{[], _∷_}
+use lib.IntN.{pos, negsuc}
 use mir.Syntax.{w16}
 use mir.Val.{toZ}
-use Rattle.codec.specs.Codec.{Got, got, no}
-use Rattle.codec.specs.Whole.{Told, told}
+use Rattle.codec.specs.Codec.{no}
+use Rattle.codec.specs.Whole.{told}
 use Rattle.record.specs.Meanings.{milliampsOf, tenthsCelsiusOf}
 use Rattle.record.specs.Capacities.{capacities}
 use Rattle.record.specs.Limits.{limits}

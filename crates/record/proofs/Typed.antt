@@ -1,7 +1,7 @@
 -- What the types of the structs' fields already give: a limits record, a serial number and a version can always be encoded, and so can each value of a list.
 use mathlib.Core.Path.{_≡_, refl, sym, ap, _∙_, subst}
 use mathlib.Core.List.{List, [], _∷_, map, map-id}
-use mathlib.Core.Bool.{true, _&&_, and-true}
+use mathlib.Core.Bool.{and-true}
 use Prim.Native.Nat.{ℕ, zero, suc, _<_, _≤_}
 use native.Mathlib.Omega.{arith}
 use native.Mathlib.Nat.{not-suc-le-zero, le-of-suc-le-suc}

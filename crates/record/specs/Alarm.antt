@@ -1,4 +1,4 @@
--- 44H, alarm codes of a module (source 000, 3.4): the record without flag and Command.
+-- 44H, alarm codes of a module (source 000, 3.5): the record without flag and Command.
 use mathlib.Core.Path.{refl}
 use mathlib.Core.List.{List}
 use mathlib.Core.Bool.{Bool, _||_}

@@ -1,8 +1,8 @@
 -- The capacities of 42H, in mAh: remaining 1, items, total 1, cycles, and with items 4 remaining 2 and total 2. Items are no field: they follow from total.
-use mathlib.Core.Path.{_≡_, refl, sym, ap, subst}
+use mathlib.Core.Path.{_≡_, refl, sym, subst}
 use mathlib.Core.Bool.{Bool, true, false, cond, _&&_, _||_}
 use mathlib.Core.Logic.{⊎-elim}
-use Prim.Native.Nat.{ℕ, _<_, _≤_}
+use Prim.Native.Nat.{ℕ}
 use native.Mathlib.Omega.{arith}
 use lib.Dec.{T, leb, ltb, eqb, leb→le, ltb→lt, eqb→eq}
 use mir.Facts.{and-yes, yes-and, or-yes}

@@ -1,4 +1,4 @@
--- 93H, serial number, and 96H, firmware version (source 000, 3.8 and 3.10), without Command; 51H, the maker's 10, 2 and 20 bytes (3.6).
+-- 93H, serial number, and 96H, firmware version (source 000, 3.7 and 3.10), without Command; 51H, the maker's 10, 2 and 20 bytes (3.2).
 use mathlib.Core.List.{List}
 use Prim.Native.Nat.{ℕ}
 use Rattle.codec.specs.Codec.{Codec, byte}

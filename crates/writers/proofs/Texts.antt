@@ -1,7 +1,7 @@
 -- The bytes of the records with a fixed length, and when their INFOs are written.
-use mathlib.Core.Path.{_≡_, refl, sym, ap, _∙_}
+use mathlib.Core.Path.{_≡_, refl, ap}
 use mathlib.Core.Bool.{Bool, true, false, _&&_}
-use mathlib.Core.List.{List, [], _∷_, _++_}
+use mathlib.Core.List.{List, [], _∷_}
 use Prim.Native.Nat.{ℕ, zero, suc, _<_}
 use lib.ListN.{length}
 use lib.Dec.{T, ltb}
@@ -11,7 +11,7 @@ use borrow.Author.Tests.{lt-ltb, eq-eqb}
 use Rattle.codec.specs.Codec.{Codec, byte}
 use Rattle.codec.specs.Both.{_then_}
 use Rattle.codec.specs.Row.{row-ok}
-use Rattle.codec.specs.Whole.{Whole, lead, ended}
+use Rattle.codec.specs.Whole.{lead, ended}
 use Rattle.codec.proofs.Rows.{row-bytes}
 use Rattle.record.specs.declared.Limits.{Limits}
 use Rattle.record.specs.Address.{isAddress}
