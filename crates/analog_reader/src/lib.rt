@@ -1,14 +1,15 @@
 // The reader of a 42H record at a place of INFO. Counts are read with the record and go with it; on a refusal every field is 0.
 
 ghost use mathlib.Core.Path.{_≡_};
-ghost use lib.ListN.{length};
+ghost use mathlib.Core.Bool.{true, false};
+ghost use lib.ListN.{length, drop};
 ghost use Rattle.hex.specs.Hex.{unhexes};
 ghost use Rattle.codec.specs.Numbers.{signed, three};
-ghost use Rattle.codec.specs.Reading.{reads};
+ghost use Rattle.codec.specs.Reading.{outcome, reads};
 ghost use Rattle.record.specs.Capacities.{capacities};
 ghost use Rattle.record.specs.Analog.{measured, analog};
 ghost use Rattle.readers.specs.Readings.{paper, Fills};
-ghost use Rattle.analog_reader.specs.Capacity.{paperCapacity};
+ghost use Rattle.analog_reader.specs.Capacity.{paperCapacity, afterItems};
 ghost use Rattle.analog_reader.specs.Nothing.{noList, noCapacities, noAnalog};
 use fields::Next;
 use readers::Reading;
@@ -159,62 +160,80 @@ fn no_capacities(why: Refusal) -> Capacities
     }
 }
 
-// Remaining 1, items, total 1, cycles, and with items 4 remaining 2 and total 2.
-fn read_capacities(info: &[u8], at: usize) -> Capacities
-    ensures { λ r. ⌜ paper (r .reading) (r .remaining, (r .total, r .cycles)) ≡ reads capacities noCapacities (unhexes (now (info .entry))) at ⌝ }
+// With items 2, after them: total 1, cycles. Both capacities are at most 65,000.
+fn read_items_2(info: &[u8], at: usize, remaining: u16) -> Capacities
+    ensures { λ r. ⌜ paper (r .reading) (r .remaining, (r .total, r .cycles)) ≡ outcome noCapacities (length (unhexes (now (info .entry)))) (afterItems remaining false (drop at (unhexes (now (info .entry))))) ⌝ }
 {
-    let Next::Field(remaining1, at1) = fields::field(info, at, 2) else {
+    let Next::Field(total, at1) = fields::field(info, at, 2) else {
         return no_capacities(Refusal::InfoEnds);
     };
-    let Next::Field(items, at2) = fields::field(info, at1, 1) else {
+    let Next::Field(cycles, at2) = fields::field(info, at1, 2) else {
         return no_capacities(Refusal::InfoEnds);
     };
-    if items != 2 {
-        if items != 4 {
-            return no_capacities(Refusal::ItemsUnknown);
-        }
-    }
-    let Next::Field(total1, at3) = fields::field(info, at2, 2) else {
-        return no_capacities(Refusal::InfoEnds);
-    };
-    let Next::Field(cycles, at4) = fields::field(info, at3, 2) else {
-        return no_capacities(Refusal::InfoEnds);
-    };
-    if items == 2 {
-        if remaining1 > 65000 {
-            return no_capacities(Refusal::CapacitiesBreakRule);
-        }
-        if total1 > 65000 {
-            return no_capacities(Refusal::CapacitiesBreakRule);
-        }
-        return Capacities {
-            reading: Reading::Read(at4),
-            remaining: remaining1 as u32,
-            total: total1 as u32,
-            cycles: cycles,
-        };
-    }
-    let Capacity::Field(remaining2, at5) = read_capacity(info, at4) else {
-        return no_capacities(Refusal::InfoEnds);
-    };
-    let Capacity::Field(total2, at6) = read_capacity(info, at5) else {
-        return no_capacities(Refusal::InfoEnds);
-    };
-    if remaining1 != 65535 {
+    if remaining > 65000 {
         return no_capacities(Refusal::CapacitiesBreakRule);
     }
-    if total1 != 65535 {
+    if total > 65000 {
+        return no_capacities(Refusal::CapacitiesBreakRule);
+    }
+    Capacities {
+        reading: Reading::Read(at2),
+        remaining: remaining as u32,
+        total: total as u32,
+        cycles: cycles,
+    }
+}
+
+// With items 4, after them: total 1, cycles, remaining 2, total 2. The two-byte fields are FFFFH, and total 2 is above 65,000.
+fn read_items_4(info: &[u8], at: usize, remaining: u16) -> Capacities
+    ensures { λ r. ⌜ paper (r .reading) (r .remaining, (r .total, r .cycles)) ≡ outcome noCapacities (length (unhexes (now (info .entry)))) (afterItems remaining true (drop at (unhexes (now (info .entry))))) ⌝ }
+{
+    let Next::Field(total, at1) = fields::field(info, at, 2) else {
+        return no_capacities(Refusal::InfoEnds);
+    };
+    let Next::Field(cycles, at2) = fields::field(info, at1, 2) else {
+        return no_capacities(Refusal::InfoEnds);
+    };
+    let Capacity::Field(remaining2, at3) = read_capacity(info, at2) else {
+        return no_capacities(Refusal::InfoEnds);
+    };
+    let Capacity::Field(total2, at4) = read_capacity(info, at3) else {
+        return no_capacities(Refusal::InfoEnds);
+    };
+    if remaining != 65535 {
+        return no_capacities(Refusal::CapacitiesBreakRule);
+    }
+    if total != 65535 {
         return no_capacities(Refusal::CapacitiesBreakRule);
     }
     if total2 <= 65000 {
         return no_capacities(Refusal::CapacitiesBreakRule);
     }
     Capacities {
-        reading: Reading::Read(at6),
+        reading: Reading::Read(at4),
         remaining: remaining2,
         total: total2,
         cycles: cycles,
     }
+}
+
+// Remaining 1, items, and what follows by them.
+fn read_capacities(info: &[u8], at: usize) -> Capacities
+    ensures { λ r. ⌜ paper (r .reading) (r .remaining, (r .total, r .cycles)) ≡ reads capacities noCapacities (unhexes (now (info .entry))) at ⌝ }
+{
+    let Next::Field(remaining, at1) = fields::field(info, at, 2) else {
+        return no_capacities(Refusal::InfoEnds);
+    };
+    let Next::Field(items, at2) = fields::field(info, at1, 1) else {
+        return no_capacities(Refusal::InfoEnds);
+    };
+    if items == 2 {
+        return read_items_2(info, at2, remaining);
+    }
+    if items == 4 {
+        return read_items_4(info, at2, remaining);
+    }
+    no_capacities(Refusal::ItemsUnknown)
 }
 
 fn no_analog(why: Refusal) -> AnalogRead

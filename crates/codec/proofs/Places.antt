@@ -86,13 +86,26 @@ module _ {A : Type 0} (c : Codec A) (none : A) (s : List ℕ) (at : ℕ) where
   unfolding reads
   stopped e = no-of none (length s) (c .get (drop at s)) e
 
-  -- and back: what a reader has to answer
-  pub found : {a : A} {next : ℕ} → c .get (drop at s) ≡ got a (drop next s) → next ≤ length s → read a next ≡ reads c none s at
-  unfolding reads
-  found {a} {next} e h =
+-- and back: what a reader has to answer, of anything that was read at a place
+module _ {A : Type 0} (none : A) (s : List ℕ) (g : Got A) where
+  pub found-in : {a : A} {next : ℕ} → g ≡ got a (drop next s) → next ≤ length s → read a next ≡ outcome none (length s) g
+  found-in {a} {next} e h =
       let p : next ≡ length s - length (drop next s) = rw length-drop (omega arith) in
       ap (read a) p ∙ sym (ap (outcome none (length s)) e)
 
+  pub stops-in : {k : ℕ} → g ≡ no k → refused k none ≡ outcome none (length s) g
+  stops-in e = sym (ap (outcome none (length s)) e)
+
+module _ {A : Type 0} (c : Codec A) (none : A) (s : List ℕ) (at : ℕ) where
+  pub found : {a : A} {next : ℕ} → c .get (drop at s) ≡ got a (drop next s) → next ≤ length s → read a next ≡ reads c none s at
+  unfolding reads
+  found = found-in none s (c .get (drop at s))
+
   pub stops : {k : ℕ} → c .get (drop at s) ≡ no k → refused k none ≡ reads c none s at
   unfolding reads
-  stops e = sym (ap (outcome none (length s)) e)
+  stops = stops-in none s (c .get (drop at s))
+
+  -- the rest of a record was read by another reader
+  pub goes-on : (g : Got A) → c .get (drop at s) ≡ g → outcome none (length s) g ≡ reads c none s at
+  unfolding reads
+  goes-on g e = sym (ap (outcome none (length s)) e)

@@ -7,7 +7,7 @@ use native.Mathlib.Numerals.{add-one}
 use lib.ListN.{length, take, drop, set, length-set}
 use lib.Seq.{take-suc-set, take-length}
 use Rattle.codec.specs.Codec.{Codec, Got, got, no, andThen}
-use Rattle.codec.specs.Row.{row, row-get}
+use Rattle.codec.specs.Row.{row, row-put}
 
 -- what was read before, in front of what is read
 abbrev pub onto : {A : Type 0} → List A → Got (List A) → Got (List A)
@@ -77,3 +77,8 @@ module _ {A : Type 0} (c : Codec A) (s : List ℕ) (from n : ℕ) where
             ∙ ap (λ (l : List A). got l (drop at s)) (append-nil (take i list) ∙ ap (λ (k : ℕ). take k list) e ∙ take-length list),
         λ p. f .place (omega arith),
       )
+
+-- values of one byte each are their own bytes
+pub row-bytes : (c : Codec ℕ) → ((a : ℕ) → c .put a ≡ a ∷ []) → (l : List ℕ) → row-put c l ≡ l
+row-bytes c h [] = refl
+row-bytes c h (a ∷ l) = ap (λ (p : List ℕ). p ++ row-put c l) (h a) ∙ ap (λ (t : List ℕ). a ∷ t) (row-bytes c h l)

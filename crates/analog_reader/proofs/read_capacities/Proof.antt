@@ -1,202 +1,105 @@
+-- The items say what follows.
+use mathlib.Core.Bool.{true, false}
+use mathlib.Core.Path.{ap, _∙_}
+use Prim.Native.Nat.{ℕ, _-_}
+use lib.ListN.{take, drop}
+use lib.Dec.{T}
+use borrow.Author.Tests.{ne-eqb}
 use borrow.Author.Needs.{needs}
+use Rattle.analog_reader.proofs.Threes.{after-items}
+use Rattle.analog_reader.specs.declared.Capacities.{Capacities}
+use Rattle.analog_reader.specs.Nothing.{noCapacities}
+use Rattle.analog_reader.specs.Capacity.{afterItems}
+use Rattle.record.specs.Capacities.{capacities}
+use Rattle.codec.proofs.Places.{goes-on, stops}
+use Rattle.codec.specs.Reading.{read}
+use Rattle.codec.specs.Numbers.{word}
+use Rattle.readers.proofs.Steps.{field-went, field-ended}
+use Rattle.readers.specs.Readings.{paper}
+use Rattle.codec.specs.Codec.{byte, got, no}
+use Rattle.hex.proofs.Laws.{bytes-unhexes}
+use Rattle.hex.specs.Hex.{unhexes}
 use Rattle.analog_reader.proofs.read_capacities.Statement.{statement}
 use Rattle.analog_reader.proofs.read_capacities.Tie as tie
-use Rattle.analog_reader.proofs.read_capacities.Reads as reads
-use Rattle.analog_reader.proofs.read_capacities.Lts as lts
-use Rattle.analog_reader.proofs.no_capacities.Reads as no-capacities-reads
-use Rattle.analog_reader.proofs.read_capacity.Reads as read-capacity-reads
-use Rattle.fields.proofs.field.Reads as field-reads
 
--- src/lib.rt:166:40
 field-requires : tie.Need-field-requires
 field-requires c κs = search needs
 
--- src/lib.rt:166:21
-enum-known-remaining1 : tie.Need-enum-known-remaining1
-enum-known-remaining1 c = search needs
+enum-known-remaining : tie.Need-enum-known-remaining
+enum-known-remaining c = search needs
 
--- src/lib.rt:167:30
 enum-told : tie.Need-enum-told
 enum-told c = search needs
 
--- src/lib.rt:167:9
 no-capacities-requires : tie.Need-no-capacities-requires
 no-capacities-requires c κs = search needs
 
--- src/lib.rt:167:9
 returns : tie.Need-returns
-returns c = ?
+unfolding capacities
+returns c =
+    let e1 = field-ended word (unhexes (c .before .before .before .before .before .args .info .now)) (c .before .before .before .before .before .args .at) (c .before .before .before .field .result) (c .before .before .before .field .ensures) (c .before .enum-told .given .1) in
+    ap (λ (x : Capacities). paper (x .reading) (x .remaining, (x .total, x .cycles))) (c .no-capacities .ensures)
+    ∙ stops capacities noCapacities (unhexes (c .before .before .before .before .before .args .info .now)) (c .before .before .before .before .before .args .at) (rw (e1))
 
--- src/lib.rt:169:35
 field-requires-2 : tie.Need-field-requires-2
 field-requires-2 c κs = search needs
 
--- src/lib.rt:169:21
 enum-known-items : tie.Need-enum-known-items
 enum-known-items c = search needs
 
--- src/lib.rt:170:30
 enum-told-2 : tie.Need-enum-told-2
 enum-told-2 c = search needs
 
--- src/lib.rt:170:9
 no-capacities-requires-2 : tie.Need-no-capacities-requires-2
 no-capacities-requires-2 c κs = search needs
 
--- src/lib.rt:170:9
 returns-2 : tie.Need-returns-2
-returns-2 c = ?
+unfolding capacities
+returns-2 c =
+    let w1 = field-went word (unhexes (c .before .before .before .before .before .before .before .before .before .args .info .now)) (c .before .before .before .before .before .before .before .before .before .args .at) (c .before .before .before .before .before .before .before .field .result) (c .before .before .before .before .before .before .before .field .ensures) (bytes-unhexes (c .before .before .before .before .before .before .before .before .before .args .info .now)) (c .before .before .before .before .before .remaining .given .1) in
+    let e2 = field-ended byte (unhexes (c .before .before .before .before .before .before .before .before .before .args .info .now)) (c .before .before .before .before .before .remaining .given .0 .1 .0) (c .before .before .before .field2 .result) (c .before .before .before .field2 .ensures) (c .before .enum-told2 .given .1) in
+    ap (λ (x : Capacities). paper (x .reading) (x .remaining, (x .total, x .cycles))) (c .no-capacities2 .ensures)
+    ∙ stops capacities noCapacities (unhexes (c .before .before .before .before .before .before .before .before .before .args .info .now)) (c .before .before .before .before .before .before .before .before .before .args .at) (rw (w1 .get, e2))
 
--- src/lib.rt:174:13
+read-items-2-requires : tie.Need-read-items-2-requires
+read-items-2-requires c κs = search needs
+
+returns-3 : tie.Need-returns-3
+returns-3 c =
+    let w1 = field-went word (unhexes (c .before .before .before .before .before .before .before .before .before .before .before .args .info .now)) (c .before .before .before .before .before .before .before .before .before .before .before .args .at) (c .before .before .before .before .before .before .before .before .before .field .result) (c .before .before .before .before .before .before .before .before .before .field .ensures) (bytes-unhexes (c .before .before .before .before .before .before .before .before .before .before .before .args .info .now)) (c .before .before .before .before .before .before .before .remaining .given .1) in
+    let w2 = field-went byte (unhexes (c .before .before .before .before .before .before .before .before .before .before .before .args .info .now)) (c .before .before .before .before .before .before .before .remaining .given .0 .1 .0) (c .before .before .before .before .before .field2 .result) (c .before .before .before .before .before .field2 .ensures) (bytes-unhexes (c .before .before .before .before .before .before .before .before .before .before .before .args .info .now)) (c .before .before .before .items .given .1) in
+    c .read-items-2 .ensures
+    ∙ goes-on capacities noCapacities (unhexes (c .before .before .before .before .before .before .before .before .before .before .before .args .info .now)) (c .before .before .before .before .before .before .before .before .before .before .before .args .at) (afterItems (c .before .before .before .before .before .before .before .remaining .given .0 .0) false (drop (c .before .before .before .items .given .0 .1 .0) (unhexes (c .before .before .before .before .before .before .before .before .before .before .before .args .info .now))))
+    (after-items (unhexes (c .before .before .before .before .before .before .before .before .before .before .before .args .info .now)) (c .before .before .before .before .before .before .before .before .before .before .before .args .at) (c .before .before .before .before .before .before .before .remaining .given .0 .1 .0) (c .before .before .before .items .given .0 .1 .0) (c .before .before .before .before .before .before .before .remaining .given .0 .0) false (w1 .get) (w2 .get ∙ ap (λ (v : ℕ). got v (drop (c .before .before .before .items .given .0 .1 .0) (unhexes (c .before .before .before .before .before .before .before .before .before .before .before .args .info .now)))) (c .before .if1 .taken)))
+
+read-items-4-requires : tie.Need-read-items-4-requires
+read-items-4-requires c κs = search needs
+
+returns-4 : tie.Need-returns-4
+returns-4 c =
+    let w1 = field-went word (unhexes (c .before .before .before .before .before .before .before .before .before .before .before .before .args .info .now)) (c .before .before .before .before .before .before .before .before .before .before .before .before .args .at) (c .before .before .before .before .before .before .before .before .before .before .field .result) (c .before .before .before .before .before .before .before .before .before .before .field .ensures) (bytes-unhexes (c .before .before .before .before .before .before .before .before .before .before .before .before .args .info .now)) (c .before .before .before .before .before .before .before .before .remaining .given .1) in
+    let w2 = field-went byte (unhexes (c .before .before .before .before .before .before .before .before .before .before .before .before .args .info .now)) (c .before .before .before .before .before .before .before .before .remaining .given .0 .1 .0) (c .before .before .before .before .before .before .field2 .result) (c .before .before .before .before .before .before .field2 .ensures) (bytes-unhexes (c .before .before .before .before .before .before .before .before .before .before .before .before .args .info .now)) (c .before .before .before .before .items .given .1) in
+    c .read-items-4 .ensures
+    ∙ goes-on capacities noCapacities (unhexes (c .before .before .before .before .before .before .before .before .before .before .before .before .args .info .now)) (c .before .before .before .before .before .before .before .before .before .before .before .before .args .at) (afterItems (c .before .before .before .before .before .before .before .before .remaining .given .0 .0) true (drop (c .before .before .before .before .items .given .0 .1 .0) (unhexes (c .before .before .before .before .before .before .before .before .before .before .before .before .args .info .now))))
+    (after-items (unhexes (c .before .before .before .before .before .before .before .before .before .before .before .before .args .info .now)) (c .before .before .before .before .before .before .before .before .before .before .before .before .args .at) (c .before .before .before .before .before .before .before .before .remaining .given .0 .1 .0) (c .before .before .before .before .items .given .0 .1 .0) (c .before .before .before .before .before .before .before .before .remaining .given .0 .0) true (w1 .get) (w2 .get ∙ ap (λ (v : ℕ). got v (drop (c .before .before .before .before .items .given .0 .1 .0) (unhexes (c .before .before .before .before .before .before .before .before .before .before .before .before .args .info .now)))) (c .before .if2 .taken)))
+
 no-capacities-requires-3 : tie.Need-no-capacities-requires-3
 no-capacities-requires-3 c κs = search needs
 
--- src/lib.rt:174:13
-returns-3 : tie.Need-returns-3
-returns-3 c = ?
-
--- src/lib.rt:177:36
-field-requires-3 : tie.Need-field-requires-3
-field-requires-3 c κs = search needs
-
--- src/lib.rt:177:21
-enum-known-total1 : tie.Need-enum-known-total1
-enum-known-total1 c = search needs
-
--- src/lib.rt:178:30
-enum-told-3 : tie.Need-enum-told-3
-enum-told-3 c = search needs
-
--- src/lib.rt:178:9
-no-capacities-requires-4 : tie.Need-no-capacities-requires-4
-no-capacities-requires-4 c κs = search needs
-
--- src/lib.rt:178:9
-returns-4 : tie.Need-returns-4
-returns-4 c = ?
-
--- src/lib.rt:180:36
-field-requires-4 : tie.Need-field-requires-4
-field-requires-4 c κs = search needs
-
--- src/lib.rt:180:21
-enum-known-cycles : tie.Need-enum-known-cycles
-enum-known-cycles c = search needs
-
--- src/lib.rt:181:30
-enum-told-4 : tie.Need-enum-told-4
-enum-told-4 c = search needs
-
--- src/lib.rt:181:9
-no-capacities-requires-5 : tie.Need-no-capacities-requires-5
-no-capacities-requires-5 c κs = search needs
-
--- src/lib.rt:181:9
 returns-5 : tie.Need-returns-5
-returns-5 c = ?
-
--- src/lib.rt:185:13
-no-capacities-requires-6 : tie.Need-no-capacities-requires-6
-no-capacities-requires-6 c κs = search needs
-
--- src/lib.rt:185:13
-returns-6 : tie.Need-returns-6
-returns-6 c = ?
-
--- src/lib.rt:188:13
-no-capacities-requires-7 : tie.Need-no-capacities-requires-7
-no-capacities-requires-7 c κs = search needs
-
--- src/lib.rt:188:13
-returns-7 : tie.Need-returns-7
-returns-7 c = ?
-
--- src/lib.rt:192:24
-cast-t30 : tie.Need-cast-t30
-cast-t30 c = search needs
-
--- src/lib.rt:193:20
-cast-t31 : tie.Need-cast-t31
-cast-t31 c = search needs
-
--- src/lib.rt:190:9
-returns-8 : tie.Need-returns-8
-returns-8 c = ?
-
--- src/lib.rt:197:44
-read-capacity-requires : tie.Need-read-capacity-requires
-read-capacity-requires c κs = search needs
-
--- src/lib.rt:197:25
-enum-known-remaining2 : tie.Need-enum-known-remaining2
-enum-known-remaining2 c = search needs
-
--- src/lib.rt:198:30
-enum-told-5 : tie.Need-enum-told-5
-enum-told-5 c = search needs
-
--- src/lib.rt:198:9
-no-capacities-requires-8 : tie.Need-no-capacities-requires-8
-no-capacities-requires-8 c κs = search needs
-
--- src/lib.rt:198:9
-returns-9 : tie.Need-returns-9
-returns-9 c = ?
-
--- src/lib.rt:200:40
-read-capacity-requires-2 : tie.Need-read-capacity-requires-2
-read-capacity-requires-2 c κs = search needs
-
--- src/lib.rt:200:25
-enum-known-total2 : tie.Need-enum-known-total2
-enum-known-total2 c = search needs
-
--- src/lib.rt:201:30
-enum-told-6 : tie.Need-enum-told-6
-enum-told-6 c = search needs
-
--- src/lib.rt:201:9
-no-capacities-requires-9 : tie.Need-no-capacities-requires-9
-no-capacities-requires-9 c κs = search needs
-
--- src/lib.rt:201:9
-returns-10 : tie.Need-returns-10
-returns-10 c = ?
-
--- src/lib.rt:204:9
-no-capacities-requires-10 : tie.Need-no-capacities-requires-10
-no-capacities-requires-10 c κs = search needs
-
--- src/lib.rt:204:9
-returns-11 : tie.Need-returns-11
-returns-11 c = ?
-
--- src/lib.rt:207:9
-no-capacities-requires-11 : tie.Need-no-capacities-requires-11
-no-capacities-requires-11 c κs = search needs
-
--- src/lib.rt:207:9
-returns-12 : tie.Need-returns-12
-returns-12 c = ?
-
--- src/lib.rt:210:9
-no-capacities-requires-12 : tie.Need-no-capacities-requires-12
-no-capacities-requires-12 c κs = search needs
-
--- src/lib.rt:210:9
-returns-13 : tie.Need-returns-13
-returns-13 c = ?
-
--- src/lib.rt:163:1
-returns-14 : tie.Need-returns-14
-returns-14 c = ?
+unfolding capacities
+returns-5 c =
+    let w1 = field-went word (unhexes (c .before .before .before .before .before .before .before .before .before .before .before .before .args .info .now)) (c .before .before .before .before .before .before .before .before .before .before .before .before .args .at) (c .before .before .before .before .before .before .before .before .before .before .field .result) (c .before .before .before .before .before .before .before .before .before .before .field .ensures) (bytes-unhexes (c .before .before .before .before .before .before .before .before .before .before .before .before .args .info .now)) (c .before .before .before .before .before .before .before .before .remaining .given .1) in
+    let w2 = field-went byte (unhexes (c .before .before .before .before .before .before .before .before .before .before .before .before .args .info .now)) (c .before .before .before .before .before .before .before .before .remaining .given .0 .1 .0) (c .before .before .before .before .before .before .field2 .result) (c .before .before .before .before .before .before .field2 .ensures) (bytes-unhexes (c .before .before .before .before .before .before .before .before .before .before .before .before .args .info .now)) (c .before .before .before .before .items .given .1) in
+    ap (λ (x : Capacities). paper (x .reading) (x .remaining, (x .total, x .cycles))) (c .no-capacities3 .ensures)
+    ∙ stops capacities noCapacities (unhexes (c .before .before .before .before .before .before .before .before .before .before .before .before .args .info .now)) (c .before .before .before .before .before .before .before .before .before .before .before .before .args .at) (rw (w1 .get, w2 .get, ne-eqb (c .before .before .before .before .items .given .0 .0) 2 (c .before .before .if1 .left), ne-eqb (c .before .before .before .before .items .given .0 .0) 4 (c .before .if2 .left)))
 
 pub read-capacities-spec : {M : Type 1} → statement M
 read-capacities-spec =
     tie.close
     (tie.spec
     field-requires
-    enum-known-remaining1
+    enum-known-remaining
     enum-told
     no-capacities-requires
     returns
@@ -205,39 +108,9 @@ read-capacities-spec =
     enum-told-2
     no-capacities-requires-2
     returns-2
-    no-capacities-requires-3
+    read-items-2-requires
     returns-3
-    field-requires-3
-    enum-known-total1
-    enum-told-3
-    no-capacities-requires-4
+    read-items-4-requires
     returns-4
-    field-requires-4
-    enum-known-cycles
-    enum-told-4
-    no-capacities-requires-5
-    returns-5
-    no-capacities-requires-6
-    returns-6
-    no-capacities-requires-7
-    returns-7
-    cast-t30
-    cast-t31
-    returns-8
-    read-capacity-requires
-    enum-known-remaining2
-    enum-told-5
-    no-capacities-requires-8
-    returns-9
-    read-capacity-requires-2
-    enum-known-total2
-    enum-told-6
-    no-capacities-requires-9
-    returns-10
-    no-capacities-requires-10
-    returns-11
-    no-capacities-requires-11
-    returns-12
-    no-capacities-requires-12
-    returns-13
-    returns-14)
+    no-capacities-requires-3
+    returns-5)

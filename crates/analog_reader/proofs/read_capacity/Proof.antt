@@ -1,61 +1,64 @@
+-- A word and one byte more.
+use mathlib.Core.Path.{ap}
+use Prim.Native.Nat.{_-_}
+use lib.Dec.{T}
 use borrow.Author.Needs.{needs}
+use Rattle.codec.proofs.Places.{found, stops}
+use Rattle.codec.specs.Reading.{read}
+use Rattle.codec.specs.Numbers.{three, word}
+use Rattle.readers.proofs.Steps.{field-went, field-ended}
+use Rattle.codec.specs.Codec.{byte, no}
+use Rattle.hex.proofs.Laws.{bytes-unhexes}
+use Rattle.hex.specs.Hex.{unhexes}
 use Rattle.analog_reader.proofs.read_capacity.Statement.{statement}
 use Rattle.analog_reader.proofs.read_capacity.Tie as tie
-use Rattle.analog_reader.proofs.read_capacity.Reads as reads
-use Rattle.analog_reader.proofs.read_capacity.Lts as lts
-use Rattle.fields.proofs.field.Reads as field-reads
 
--- src/lib.rt:135:34
 field-requires : tie.Need-field-requires
 field-requires c κs = search needs
 
--- src/lib.rt:135:21
 enum-known-high : tie.Need-enum-known-high
 enum-known-high c = search needs
 
--- src/lib.rt:136:9
 enum-told : tie.Need-enum-told
 enum-told c = search needs
 
--- src/lib.rt:136:9
 returns : tie.Need-returns
-returns c = ?
+returns c =
+    let e1 = field-ended word (unhexes (c .before .before .before .before .args .info .now)) (c .before .before .before .before .args .at) (c .before .before .field .result) (c .before .before .field .ensures) (c .enum-told .given .1) in
+    stops three 0 (unhexes (c .before .before .before .before .args .info .now)) (c .before .before .before .before .args .at) (rw e1)
 
--- src/lib.rt:138:34
 field-requires-2 : tie.Need-field-requires-2
 field-requires-2 c κs = search needs
 
--- src/lib.rt:138:21
 enum-known-low : tie.Need-enum-known-low
 enum-known-low c = search needs
 
--- src/lib.rt:139:9
 enum-told-2 : tie.Need-enum-told-2
 enum-told-2 c = search needs
 
--- src/lib.rt:139:9
 returns-2 : tie.Need-returns-2
-returns-2 c = ?
+returns-2 c =
+    let w1 = field-went word (unhexes (c .before .before .before .before .before .before .before .before .args .info .now)) (c .before .before .before .before .before .before .before .before .args .at) (c .before .before .before .before .before .before .field .result) (c .before .before .before .before .before .before .field .ensures) (bytes-unhexes (c .before .before .before .before .before .before .before .before .args .info .now)) (c .before .before .before .before .high .given .1) in
+    let e2 = field-ended byte (unhexes (c .before .before .before .before .before .before .before .before .args .info .now)) (c .before .before .before .before .high .given .0 .1 .0) (c .before .before .field2 .result) (c .before .before .field2 .ensures) (c .enum-told2 .given .1) in
+    stops three 0 (unhexes (c .before .before .before .before .before .before .before .before .args .info .now)) (c .before .before .before .before .before .before .before .before .args .at) (rw (w1 .get, e2))
 
--- src/lib.rt:141:21
 cast-t9 : tie.Need-cast-t9
 cast-t9 c = search needs
 
--- src/lib.rt:141:21
 mul-t10 : tie.Need-mul-t10
 mul-t10 c = search needs
 
--- src/lib.rt:141:41
 cast-t11 : tie.Need-cast-t11
 cast-t11 c = search needs
 
--- src/lib.rt:141:21
 add-t12 : tie.Need-add-t12
 add-t12 c = search needs
 
--- src/lib.rt:132:1
 returns-3 : tie.Need-returns-3
-returns-3 c = ?
+returns-3 c =
+    let w1 = field-went word (unhexes (c .before .before .before .before .before .before .before .before .before .args .info .now)) (c .before .before .before .before .before .before .before .before .before .args .at) (c .before .before .before .before .before .before .before .field .result) (c .before .before .before .before .before .before .before .field .ensures) (bytes-unhexes (c .before .before .before .before .before .before .before .before .before .args .info .now)) (c .before .before .before .before .before .high .given .1) in
+    let w2 = field-went byte (unhexes (c .before .before .before .before .before .before .before .before .before .args .info .now)) (c .before .before .before .before .before .high .given .0 .1 .0) (c .before .before .before .field2 .result) (c .before .before .before .field2 .ensures) (bytes-unhexes (c .before .before .before .before .before .before .before .before .before .args .info .now)) (c .before .low .given .1) in
+    found three 0 (unhexes (c .before .before .before .before .before .before .before .before .before .args .info .now)) (c .before .before .before .before .before .before .before .before .before .args .at) (rw (w1 .get, w2 .get)) (w2 .place)
 
 pub read-capacity-spec : {M : Type 1} → statement M
 read-capacity-spec =
