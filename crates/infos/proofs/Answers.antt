@@ -6,7 +6,7 @@ use Rattle.refusal.specs.declared.Refusal.{Refusal}
 use Rattle.refusal.specs.Number.{number}
 use Rattle.codec.specs.Whole.{Told, told, refuse}
 use Rattle.infos.specs.declared.Taken.{Taken}
-use Rattle.infos.specs.Took.{Took, took, refused, paper, taken}
+use Rattle.infos.specs.Took.{took, refused, paper, taken}
 
 module _ {A X : Type 0} (none : A) (how : X → ℕ × A) where
   told-of : (w : Told X) {f : ℕ} {a : A} → took f a ≡ taken none how w → (x : X) × (w ≡ told x) × (how x .0 ≡ f) × (how x .1 ≡ a)

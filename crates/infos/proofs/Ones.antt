@@ -7,7 +7,6 @@ use Rattle.refusal.specs.Number.{number}
 use Rattle.refusal.proofs.Numbers.{number-injective}
 use Rattle.codec.specs.Codec.{byte}
 use Rattle.codec.specs.Both.{_then_}
-use Rattle.codec.specs.Whole.{Told}
 use Rattle.codec.specs.Reading.{reads}
 use Rattle.record.specs.Texts.{maker}
 use Rattle.record.specs.Infos.{command, analogInfo, alarmInfo, limitsInfo, serialInfo, versionInfo}

@@ -9,7 +9,7 @@ use borrow.Author.Tests.{eq-eqb, ne-eqb}
 use Rattle.codec.specs.Codec.{Codec, got, no, byte}
 use Rattle.codec.specs.Whole.{Whole, Told, told, refuse, mapped, at-end, ended, lead}
 use Rattle.record.specs.Infos.{command}
-use Rattle.infos.specs.Took.{Took, took, refused, taken}
+use Rattle.infos.specs.Took.{took, refused, taken}
 
 -- ---- Command, at the byte that stands there
 

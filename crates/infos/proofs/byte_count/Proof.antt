@@ -1,10 +1,6 @@
 -- Two characters are a byte.
 use mathlib.Core.Path.{sym}
-use Prim.Native.Nat.{_-_}
-use lib.ListN.{length}
 use Rattle.fields.proofs.Unhexed.{length-unhexes}
-use Rattle.codec.specs.Codec.{byte}
-use Rattle.hex.specs.Hex.{unhexes}
 use Rattle.infos.proofs.byte_count.Statement.{statement}
 use Rattle.infos.proofs.byte_count.Tie as tie
 

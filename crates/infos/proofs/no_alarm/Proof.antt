@@ -1,5 +1,4 @@
 -- Zeros beside the refusal.
-use Prim.Native.Nat.{_-_}
 use borrow.Author.Needs.{needs}
 use Rattle.infos.specs.declared.Taken.{Taken}
 use Rattle.infos.specs.Took.{taken}

@@ -1,5 +1,4 @@
 -- One byte, and the test.
-use Prim.Native.Nat.{_-_}
 use lib.ListN.{drop}
 use borrow.Author.Needs.{needs}
 use Rattle.infos.proofs.Stages.{command-differs, command-is}
@@ -7,7 +6,6 @@ use Rattle.infos.specs.Took.{taken}
 use Rattle.readers.proofs.Steps.{field-went, field-ended}
 use Rattle.record.specs.Infos.{command}
 use Rattle.codec.proofs.Places.{found, stops}
-use Rattle.codec.specs.Whole.{ended}
 use Rattle.codec.specs.Codec.{byte}
 use Rattle.hex.proofs.Laws.{bytes-unhexes}
 use Rattle.hex.specs.Hex.{unhexes}

@@ -1,15 +1,12 @@
 -- The flag, then Command.
 use mathlib.Core.Path.{ap, _∙_}
-use Prim.Native.Nat.{_-_}
 use lib.Dec.{ltb→lt}
 use borrow.Author.Needs.{needs}
 use Rattle.infos.specs.declared.FrontRead.{FrontRead}
-use Rattle.infos.specs.Took.{paper}
 use Rattle.readers.proofs.Steps.{field-went, field-ended, part-went, part-stopped}
 use Rattle.readers.specs.Readings.{paper as paperRead}
 use Rattle.record.specs.Infos.{command}
 use Rattle.codec.proofs.Places.{found, stops}
-use Rattle.codec.specs.Whole.{ended}
 use Rattle.codec.specs.Both.{_then_}
 use Rattle.codec.specs.Codec.{byte}
 use Rattle.hex.proofs.Laws.{bytes-unhexes}

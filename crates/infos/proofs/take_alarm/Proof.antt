@@ -1,10 +1,8 @@
 -- Flag and Command, the record, the end: each return is a stage of the format.
 use mathlib.Core.Path.{ap, _∙_}
-use Prim.Native.Nat.{_-_}
 use native.Mathlib.Omega.{arith}
 use borrow.Author.Needs.{needs}
-use Rattle.infos.proofs.Stages.{first-refused, first-read, over, record-refused, left-over, all-found}
-use Rattle.infos.specs.declared.Taken.{Taken}
+use Rattle.infos.proofs.Stages.{first-refused, first-read, record-refused, left-over, all-found}
 use Rattle.infos.specs.declared.AlarmTaken.{AlarmTaken}
 use Rattle.infos.specs.Took.{paper, taken, flagged}
 use Rattle.alarm_reader.specs.Nothing.{noAlarm}
@@ -12,7 +10,6 @@ use Rattle.readers.proofs.Steps.{part-went, part-stopped}
 use Rattle.record.specs.Infos.{command, alarmInfo}
 use Rattle.record.specs.Alarm.{alarm}
 use Rattle.record.specs.declared.Alarm.{Alarm}
-use Rattle.codec.proofs.Places.{found}
 use Rattle.codec.specs.Whole.{ended}
 use Rattle.codec.specs.Both.{_then_}
 use Rattle.codec.specs.Codec.{byte}

@@ -1,20 +1,16 @@
 -- Command, the record, the end: each return is a stage of the format.
 use mathlib.Core.Path.{ap, _∙_}
-use Prim.Native.Nat.{_-_}
 use native.Mathlib.Omega.{arith}
 use borrow.Author.Needs.{needs}
-use Rattle.infos.proofs.Stages.{first-refused, first-read, over, record-refused, left-over, all-found}
-use Rattle.infos.specs.declared.Taken.{Taken}
+use Rattle.infos.proofs.Stages.{first-refused, first-read, record-refused, left-over, all-found}
 use Rattle.infos.specs.declared.LimitsTaken.{LimitsTaken}
-use Rattle.infos.specs.Took.{paper, taken, flagged, unflagged}
+use Rattle.infos.specs.Took.{paper, taken, unflagged}
 use Rattle.readers.proofs.Steps.{part-went, part-stopped}
 use Rattle.readers.specs.Nothing.{noLimits}
 use Rattle.record.specs.Infos.{command, limitsInfo}
 use Rattle.record.specs.Limits.{limits}
 use Rattle.record.specs.declared.Limits.{Limits}
-use Rattle.codec.proofs.Places.{found}
 use Rattle.codec.specs.Whole.{ended}
-use Rattle.codec.specs.Codec.{byte}
 use Rattle.hex.proofs.Laws.{bytes-unhexes}
 use Rattle.hex.specs.Hex.{unhexes}
 use Rattle.infos.proofs.take_limits.Statement.{statement}

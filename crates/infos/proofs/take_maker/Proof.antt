@@ -5,16 +5,13 @@ use native.Mathlib.Omega.{arith}
 use lib.Dec.{ltb→lt}
 use lib.ListN.{replicate}
 use borrow.Author.Needs.{needs}
-use Rattle.infos.proofs.Stages.{over, record-refused, left-over, all-found}
-use Rattle.infos.specs.declared.Taken.{Taken}
+use Rattle.infos.proofs.Stages.{record-refused, left-over, all-found}
 use Rattle.infos.specs.declared.MakerTaken.{MakerTaken}
 use Rattle.infos.specs.Nothing.{noMaker}
 use Rattle.infos.specs.Took.{paper, taken, bare}
 use Rattle.readers.proofs.Steps.{field-went, field-ended}
 use Rattle.record.specs.Texts.{maker}
 use Rattle.codec.proofs.Rows.{Filled, filled-none, filled-more, filled-stop, filled-all}
-use Rattle.codec.proofs.Places.{found}
-use Rattle.codec.specs.Whole.{ended}
 use Rattle.codec.specs.Row.{row}
 use Rattle.codec.specs.Codec.{byte}
 use Rattle.hex.proofs.Laws.{bytes-unhexes}

@@ -1,12 +1,10 @@
 -- No byte may be there.
 use mathlib.Core.Path.{sym, ap}
-use Prim.Native.Nat.{_-_}
 use native.Mathlib.Omega.{arith}
 use borrow.Author.Needs.{needs}
 use Rattle.infos.proofs.Stages.{over, no-more}
 use Rattle.infos.specs.Nothing.{nothing}
 use Rattle.infos.specs.Took.{taken, bare}
-use Rattle.codec.specs.Codec.{byte}
 use Rattle.hex.specs.Hex.{unhexes}
 use Rattle.infos.proofs.take_nothing.Statement.{statement}
 use Rattle.infos.proofs.take_nothing.Tie as tie
