@@ -4,7 +4,7 @@ use borrow.Author.Needs.{needs}
 use Rattle.group_infos.specs.Groups.{records, noPlaces, grouped}
 use Rattle.group_infos.specs.declared.AnalogsTaken.{AnalogsTaken}
 use Rattle.infos.proofs.Stages.{first-refused, first-read}
-use Rattle.infos.specs.Took.{paper, taken}
+use Rattle.infos.specs.Took.{paper}
 use Rattle.analog_reader.specs.Nothing.{noAnalog}
 use Rattle.readers.proofs.Steps.{part-went, part-stopped}
 use Rattle.record.specs.Infos.{command, some-analog, analogGroup}

@@ -2,7 +2,6 @@
 use lib.ListN.{drop}
 use borrow.Author.Needs.{needs}
 use Rattle.infos.proofs.Stages.{command-differs, command-is}
-use Rattle.infos.specs.Took.{taken}
 use Rattle.readers.proofs.Steps.{field-went, field-ended}
 use Rattle.record.specs.Infos.{command}
 use Rattle.codec.proofs.Places.{found, stops}

@@ -4,7 +4,7 @@ use native.Mathlib.Omega.{arith}
 use borrow.Author.Needs.{needs}
 use Rattle.infos.proofs.Stages.{first-refused, first-read, record-refused, left-over, all-found}
 use Rattle.infos.specs.declared.AnalogTaken.{AnalogTaken}
-use Rattle.infos.specs.Took.{paper, taken, flagged}
+use Rattle.infos.specs.Took.{paper, flagged}
 use Rattle.analog_reader.specs.Nothing.{noAnalog}
 use Rattle.readers.proofs.Steps.{part-went, part-stopped}
 use Rattle.record.specs.Infos.{command, analogInfo}

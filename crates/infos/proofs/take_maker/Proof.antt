@@ -8,7 +8,7 @@ use borrow.Author.Needs.{needs}
 use Rattle.infos.proofs.Stages.{record-refused, left-over, all-found}
 use Rattle.infos.specs.declared.MakerTaken.{MakerTaken}
 use Rattle.infos.specs.Nothing.{noMaker}
-use Rattle.infos.specs.Took.{paper, taken, bare}
+use Rattle.infos.specs.Took.{paper, bare}
 use Rattle.readers.proofs.Steps.{field-went, field-ended}
 use Rattle.record.specs.Texts.{maker}
 use Rattle.codec.proofs.Rows.{Filled, filled-none, filled-more, filled-stop, filled-all}

@@ -6,7 +6,7 @@ use native.Mathlib.Omega.{arith}
 use borrow.Author.Needs.{needs}
 use Rattle.infos.proofs.Stages.{first-refused, first-read, record-refused, left-over, all-found}
 use Rattle.infos.specs.declared.SerialTaken.{SerialTaken}
-use Rattle.infos.specs.Took.{paper, taken, unflagged}
+use Rattle.infos.specs.Took.{paper, unflagged}
 use Rattle.readers.proofs.Steps.{part-went, part-stopped}
 use Rattle.readers.specs.Nothing.{noSerial}
 use Rattle.record.specs.Infos.{command, serialInfo}
