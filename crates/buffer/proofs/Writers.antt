@@ -32,6 +32,12 @@ module _ (fault : ℕ) (text out : List ℕ) where
       let k : n ≡ length text = omega (arith, p .end) in
       rw (e, le-leb (length text) (length out) h, p .is, puts-front out text, k)
 
+  -- where there is a text and room for it
+  pub writing-is : (fine : Bool) → fine ≡ true → length text ≤ length out
+      → writing fault fine text out ≡ leaves (wrote (length text)) (text ++ drop (length text) out)
+  unfolding writing
+  writing-is fine e h = rw (e, le-leb (length text) (length out) h)
+
 paper-injective : (a b : Written) → paper a ≡ paper b → a ≡ b
 paper-injective (Wrote m) (Wrote n) e = cc
 paper-injective (Wrote m) (Refused r) e = never (cc)

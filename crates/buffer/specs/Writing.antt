@@ -19,6 +19,11 @@ abbrev pub paper : Written → Outcome
 paper (Wrote n) = wrote n
 paper (Refused r) = refused (number r)
 
+-- how many bytes were written: none with a refusal
+abbrev pub lengthOf : Outcome → ℕ
+lengthOf (wrote n) = n
+lengthOf (refused k) = 0
+
 -- the outcome, and the buffer then
 pub record Left : Type 0 where
   pub outcome : Outcome

@@ -63,7 +63,7 @@ pub fn chksum(characters: &[u8]) -> u16
     std::num::wrapping_sub_u16(0, total)
 }
 
-fn header_of(stretch: &[u8]) -> Header
+pub fn header_of(stretch: &[u8]) -> Header
     requires { ⌜ 16 ≤ length (now stretch) ⌝ }
     ensures { λ r. ⌜ r ≡ header (now (stretch .entry)) ⌝ }
 {

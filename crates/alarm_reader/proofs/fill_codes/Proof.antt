@@ -1,0 +1,106 @@
+-- i codes have been read; a turn reads one more.
+use mathlib.Core.Bool.{true, false}
+use mathlib.Core.Path.{_≡_, refl, sym, _∙_}
+use Prim.Native.Nat.{_-_}
+use native.Mathlib.Omega.{arith}
+use lib.ListN.{take, length}
+use lib.Dec.{T, ltb→lt}
+use borrow.Author.Tests.{not-true, not-false}
+use borrow.Author.Needs.{needs}
+use Rattle.record.specs.Alarm.{isCode, code, codes}
+use Rattle.readers.proofs.Steps.{field-went, field-ended}
+use Rattle.codec.proofs.Rows.{Filled, filled-none, filled-more, filled-stop, filled-all}
+use Rattle.codec.specs.Codec.{byte, no}
+use Rattle.hex.proofs.Laws.{bytes-unhexes}
+use Rattle.hex.specs.Hex.{unhexes}
+use Rattle.alarm_reader.proofs.fill_codes.Statement.{statement}
+use Rattle.alarm_reader.proofs.fill_codes.Tie as tie
+
+abbrev Inv-loop : tie.InvT-loop
+Inv-loop info from list₀ at₀ i₀ list at i = Filled code (unhexes info) from (length list₀) list i at
+
+abbrev μ-loop : tie.MeasureT-loop
+μ-loop info from list₀ at₀ i₀ list at i = length list₀ - i
+
+loop-holds : tie.Need-loop-holds Inv-loop μ-loop
+loop-holds c = filled-none code (unhexes (c .before .before .args .info .now)) (c .before .before .args .from) (length (c .before .before .args .list .now)) (c .before .before .args .list .now) refl
+
+field-requires : tie.Need-field-requires Inv-loop μ-loop
+field-requires c κs = search needs
+
+enum-known-value : tie.Need-enum-known-value Inv-loop μ-loop
+enum-known-value c = search needs
+
+enum-told : tie.Need-enum-told Inv-loop μ-loop
+enum-told c = search needs
+
+same-length : tie.Need-same-length Inv-loop μ-loop
+same-length c = c .before .before .before .before .loop .inv .long
+
+returns : tie.Need-returns Inv-loop μ-loop
+returns c =
+    let e = field-ended byte (unhexes (c .before .before .before .before .before .before .before .args .info .now)) (c .before .before .before .before .loop .at) (c .before .before .field .result) (c .before .before .field .ensures) (c .enum-told .given .1) in
+    filled-stop code (unhexes (c .before .before .before .before .before .before .before .args .info .now)) (c .before .before .before .before .before .before .before .args .from) (length (c .before .before .before .before .before .before .before .args .list .now)) (c .before .before .before .before .loop .inv) (omega (arith, c .before .before .before .before .loop .inv .long)) (rw e)
+
+cast-is-code : tie.Need-cast-is-code Inv-loop μ-loop
+cast-is-code c = let w = field-went byte (unhexes (c .before .before .before .before .before .before .before .before .args .info .now)) (c .before .before .before .before .before .loop .at) (c .before .before .before .field .result) (c .before .before .before .field .ensures) (bytes-unhexes (c .before .before .before .before .before .before .before .before .args .info .now)) (c .before .value .given .1) in record { fits = ltb→lt (c .before .value .given .0 .0) 256 (w .ok) }
+
+is-code-requires : tie.Need-is-code-requires Inv-loop μ-loop
+is-code-requires c κs = search needs
+
+same-length-2 : tie.Need-same-length-2 Inv-loop μ-loop
+same-length-2 c = c .before .before .before .before .before .before .before .loop .inv .long
+
+returns-2 : tie.Need-returns-2 Inv-loop μ-loop
+returns-2 c =
+    let w = field-went byte (unhexes (c .before .before .before .before .before .before .before .before .before .before .args .info .now)) (c .before .before .before .before .before .before .before .loop .at) (c .before .before .before .before .before .field .result) (c .before .before .before .before .before .field .ensures) (bytes-unhexes (c .before .before .before .before .before .before .before .before .before .before .args .info .now)) (c .before .before .before .value .given .1) in
+    let e : isCode (c .before .before .before .value .given .0 .0) ≡ false = sym (c .before .is-code .ensures) ∙ not-true _ (c .if1 .taken) in
+    filled-stop code (unhexes (c .before .before .before .before .before .before .before .before .before .before .args .info .now)) (c .before .before .before .before .before .before .before .before .before .before .args .from) (length (c .before .before .before .before .before .before .before .before .before .before .args .list .now)) (c .before .before .before .before .before .before .before .loop .inv) (omega (arith, c .before .before .before .before .before .before .before .loop .inv .long)) (rw (w .get, e))
+
+cast-list : tie.Need-cast-list Inv-loop μ-loop
+cast-list c = let w = field-went byte (unhexes (c .before .before .before .before .before .before .before .before .before .before .args .info .now)) (c .before .before .before .before .before .before .before .loop .at) (c .before .before .before .before .before .field .result) (c .before .before .before .before .before .field .ensures) (bytes-unhexes (c .before .before .before .before .before .before .before .before .before .before .args .info .now)) (c .before .before .before .value .given .1) in record { fits = ltb→lt (c .before .before .before .value .given .0 .0) 256 (w .ok) }
+
+slice-write-list : tie.Need-slice-write-list Inv-loop μ-loop
+slice-write-list c = search needs
+
+add-i : tie.Need-add-i Inv-loop μ-loop
+add-i c = search needs
+
+loop-less : tie.Need-loop-less Inv-loop μ-loop
+loop-less c = omega (arith, c .before .before .before .before .before .before .before .loop .inv .long)
+
+loop-again : tie.Need-loop-again Inv-loop μ-loop
+loop-again c =
+    let w = field-went byte (unhexes (c .before .before .before .before .before .before .before .before .before .before .args .info .now)) (c .before .before .before .before .before .before .before .loop .at) (c .before .before .before .before .before .field .result) (c .before .before .before .before .before .field .ensures) (bytes-unhexes (c .before .before .before .before .before .before .before .before .before .before .args .info .now)) (c .before .before .before .value .given .1) in
+    let e : isCode (c .before .before .before .value .given .0 .0) ≡ true = sym (c .before .is-code .ensures) ∙ not-false _ (c .if1 .left) in
+    filled-more code (unhexes (c .before .before .before .before .before .before .before .before .before .before .args .info .now)) (c .before .before .before .before .before .before .before .before .before .before .args .from) (length (c .before .before .before .before .before .before .before .before .before .before .args .list .now)) (c .before .before .before .before .before .before .before .loop .inv) (omega (arith, c .before .before .before .before .before .before .before .loop .inv .long)) (rw (w .get, e)) (w .place)
+
+same-length-3 : tie.Need-same-length-3 Inv-loop μ-loop
+same-length-3 c = c .before .loop .inv .long
+
+returns-3 : tie.Need-returns-3 Inv-loop μ-loop
+returns-3 c = filled-all code (unhexes (c .before .before .before .before .args .info .now)) (c .before .before .before .before .args .from) (length (c .before .before .before .before .args .list .now)) (c .before .loop .inv) (omega (arith, c .before .loop .inv .long))
+
+pub fill-codes-spec : {M : Type 1} → statement M
+fill-codes-spec =
+    tie.close
+    (tie.spec
+    Inv-loop
+    μ-loop
+    loop-holds
+    field-requires
+    enum-known-value
+    enum-told
+    same-length
+    returns
+    cast-is-code
+    is-code-requires
+    same-length-2
+    returns-2
+    cast-list
+    slice-write-list
+    add-i
+    loop-less
+    loop-again
+    same-length-3
+    returns-3)

@@ -1,0 +1,310 @@
+// The reader of a 42H record at a place of INFO. Counts are read with the record and go with it; on a refusal every field is 0.
+
+ghost use mathlib.Core.Path.{_≡_};
+ghost use mathlib.Core.Bool.{true, false};
+ghost use lib.ListN.{length, drop};
+ghost use Rattle.hex.specs.Hex.{unhexes};
+ghost use Rattle.codec.specs.Numbers.{signed, three};
+ghost use Rattle.codec.specs.Reading.{outcome, reads};
+ghost use Rattle.record.specs.Capacities.{capacities};
+ghost use Rattle.record.specs.Analog.{measured, analog};
+ghost use Rattle.readers.specs.Readings.{paper, Fills};
+ghost use Rattle.analog_reader.specs.Capacity.{paperCapacity, afterItems};
+ghost use Rattle.analog_reader.specs.Nothing.{noList, noCapacities, noAnalog};
+use fields::Next;
+use readers::Reading;
+use record::Analog;
+use refusal::Refusal;
+
+pub struct AnalogRead {
+    pub reading: Reading,
+    pub analog: Analog,
+}
+
+// As many signed words as the list has places.
+fn fill_signed(info: &[u8], from: usize, list: &mut [i16]) -> Reading
+    ensures { λ r. ⌜ Fills signed (unhexes (now (info .entry))) from (length (now (list .entry))) r (now (list .exit)) ⌝ }
+{
+    let mut at = from;
+    let mut i: usize = 0;
+    while i < list.len() {
+        let Next::Field(word, next) = fields::field(info, at, 2) else {
+            return Reading::Refused(Refusal::InfoEnds);
+        };
+        list[i] = record::signed(word);
+        at = next;
+        i += 1;
+    }
+    Reading::Read(at)
+}
+
+struct Cells {
+    reading: Reading,
+    count: u8,
+    cells: [i16; 16],
+}
+
+fn no_cells(why: Refusal) -> Cells
+    ensures { λ r. ⌜ r ≡ record { reading = Reading.Refused why; count = 0; cells = noList 16 } ⌝ }
+{
+    let cells = [0i16; 16];
+    Cells {
+        reading: Reading::Refused(why),
+        count: 0,
+        cells: cells,
+    }
+}
+
+// M, then M cells.
+fn read_cells(info: &[u8], at: usize) -> Cells
+    ensures { λ r. ⌜ paper (r .reading) (r .count, r .cells) ≡ reads (measured 16) (0, noList 16) (unhexes (now (info .entry))) at ⌝ }
+{
+    let Next::Field(count, at1) = fields::field(info, at, 1) else {
+        return no_cells(Refusal::InfoEnds);
+    };
+    if count < 1 {
+        return no_cells(Refusal::CountOutOfRange);
+    }
+    if count > 16 {
+        return no_cells(Refusal::CountOutOfRange);
+    }
+    let m = count as usize;
+    let mut cells = [0i16; 16];
+    let filled = fill_signed(info, at1, &mut cells[..m]);
+    match filled {
+        Reading::Refused(why) => no_cells(why),
+        Reading::Read(next) => Cells {
+            reading: Reading::Read(next),
+            count: count as u8,
+            cells: cells,
+        },
+    }
+}
+
+struct Temperatures {
+    reading: Reading,
+    count: u8,
+    temperatures: [i16; 8],
+}
+
+fn no_temperatures(why: Refusal) -> Temperatures
+    ensures { λ r. ⌜ r ≡ record { reading = Reading.Refused why; count = 0; temperatures = noList 8 } ⌝ }
+{
+    let temperatures = [0i16; 8];
+    Temperatures {
+        reading: Reading::Refused(why),
+        count: 0,
+        temperatures: temperatures,
+    }
+}
+
+// N, then N temperatures.
+fn read_temperatures(info: &[u8], at: usize) -> Temperatures
+    ensures { λ r. ⌜ paper (r .reading) (r .count, r .temperatures) ≡ reads (measured 8) (0, noList 8) (unhexes (now (info .entry))) at ⌝ }
+{
+    let Next::Field(count, at1) = fields::field(info, at, 1) else {
+        return no_temperatures(Refusal::InfoEnds);
+    };
+    if count < 1 {
+        return no_temperatures(Refusal::CountOutOfRange);
+    }
+    if count > 8 {
+        return no_temperatures(Refusal::CountOutOfRange);
+    }
+    let n = count as usize;
+    let mut temperatures = [0i16; 8];
+    let filled = fill_signed(info, at1, &mut temperatures[..n]);
+    match filled {
+        Reading::Refused(why) => no_temperatures(why),
+        Reading::Read(next) => Temperatures {
+            reading: Reading::Read(next),
+            count: count as u8,
+            temperatures: temperatures,
+        },
+    }
+}
+
+// A capacity of three bytes and the place after it, or that INFO ends before it does.
+enum Capacity {
+    Field(u32, usize),
+    Ends,
+}
+
+fn read_capacity(info: &[u8], at: usize) -> Capacity
+    ensures { λ r. ⌜ paperCapacity r ≡ reads three 0 (unhexes (now (info .entry))) at ⌝ }
+{
+    let Next::Field(high, at1) = fields::field(info, at, 2) else {
+        return Capacity::Ends;
+    };
+    let Next::Field(low, next) = fields::field(info, at1, 1) else {
+        return Capacity::Ends;
+    };
+    Capacity::Field(high as u32 * 256 + low as u32, next)
+}
+
+struct Capacities {
+    reading: Reading,
+    remaining: u32,
+    total: u32,
+    cycles: u16,
+}
+
+fn no_capacities(why: Refusal) -> Capacities
+    ensures { λ r. ⌜ r ≡ record { reading = Reading.Refused why; remaining = 0; total = 0; cycles = 0 } ⌝ }
+{
+    Capacities {
+        reading: Reading::Refused(why),
+        remaining: 0,
+        total: 0,
+        cycles: 0,
+    }
+}
+
+// With items 2, after them: total 1, cycles. Both capacities are at most 65,000.
+fn read_items_2(info: &[u8], at: usize, remaining: u16) -> Capacities
+    ensures { λ r. ⌜ paper (r .reading) (r .remaining, (r .total, r .cycles)) ≡ outcome noCapacities (length (unhexes (now (info .entry)))) (afterItems remaining false (drop at (unhexes (now (info .entry))))) ⌝ }
+{
+    let Next::Field(total, at1) = fields::field(info, at, 2) else {
+        return no_capacities(Refusal::InfoEnds);
+    };
+    let Next::Field(cycles, at2) = fields::field(info, at1, 2) else {
+        return no_capacities(Refusal::InfoEnds);
+    };
+    if remaining > 65000 {
+        return no_capacities(Refusal::CapacitiesBreakRule);
+    }
+    if total > 65000 {
+        return no_capacities(Refusal::CapacitiesBreakRule);
+    }
+    Capacities {
+        reading: Reading::Read(at2),
+        remaining: remaining as u32,
+        total: total as u32,
+        cycles: cycles,
+    }
+}
+
+// With items 4, after them: total 1, cycles, remaining 2, total 2. The two-byte fields are FFFFH, and total 2 is above 65,000.
+fn read_items_4(info: &[u8], at: usize, remaining: u16) -> Capacities
+    ensures { λ r. ⌜ paper (r .reading) (r .remaining, (r .total, r .cycles)) ≡ outcome noCapacities (length (unhexes (now (info .entry)))) (afterItems remaining true (drop at (unhexes (now (info .entry))))) ⌝ }
+{
+    let Next::Field(total, at1) = fields::field(info, at, 2) else {
+        return no_capacities(Refusal::InfoEnds);
+    };
+    let Next::Field(cycles, at2) = fields::field(info, at1, 2) else {
+        return no_capacities(Refusal::InfoEnds);
+    };
+    let Capacity::Field(remaining2, at3) = read_capacity(info, at2) else {
+        return no_capacities(Refusal::InfoEnds);
+    };
+    let Capacity::Field(total2, at4) = read_capacity(info, at3) else {
+        return no_capacities(Refusal::InfoEnds);
+    };
+    if remaining != 65535 {
+        return no_capacities(Refusal::CapacitiesBreakRule);
+    }
+    if total != 65535 {
+        return no_capacities(Refusal::CapacitiesBreakRule);
+    }
+    if total2 <= 65000 {
+        return no_capacities(Refusal::CapacitiesBreakRule);
+    }
+    Capacities {
+        reading: Reading::Read(at4),
+        remaining: remaining2,
+        total: total2,
+        cycles: cycles,
+    }
+}
+
+// Remaining 1, items, and what follows by them.
+fn read_capacities(info: &[u8], at: usize) -> Capacities
+    ensures { λ r. ⌜ paper (r .reading) (r .remaining, (r .total, r .cycles)) ≡ reads capacities noCapacities (unhexes (now (info .entry))) at ⌝ }
+{
+    let Next::Field(remaining, at1) = fields::field(info, at, 2) else {
+        return no_capacities(Refusal::InfoEnds);
+    };
+    let Next::Field(items, at2) = fields::field(info, at1, 1) else {
+        return no_capacities(Refusal::InfoEnds);
+    };
+    if items == 2 {
+        return read_items_2(info, at2, remaining);
+    }
+    if items == 4 {
+        return read_items_4(info, at2, remaining);
+    }
+    no_capacities(Refusal::ItemsUnknown)
+}
+
+fn no_analog(why: Refusal) -> AnalogRead
+    ensures { λ r. ⌜ r ≡ record { reading = Reading.Refused why; analog = noAnalog } ⌝ }
+{
+    let cells = [0i16; 16];
+    let temperatures = [0i16; 8];
+    let analog = Analog {
+        cell_count: 0,
+        cells: cells,
+        temperature_count: 0,
+        temperatures: temperatures,
+        current: 0,
+        voltage: 0,
+        remaining: 0,
+        total: 0,
+        cycles: 0,
+    };
+    AnalogRead {
+        reading: Reading::Refused(why),
+        analog: analog,
+    }
+}
+
+// A 42H record.
+pub fn read_analog(info: &[u8], at: usize) -> AnalogRead
+    ensures { λ r. ⌜ paper (r .reading) (r .analog) ≡ reads analog noAnalog (unhexes (now (info .entry))) at ⌝ }
+{
+    let first = read_cells(info, at);
+    let reading1 = first.reading;
+    match reading1 {
+        Reading::Refused(why) => no_analog(why),
+        Reading::Read(at1) => {
+            let second = read_temperatures(info, at1);
+            let reading2 = second.reading;
+            match reading2 {
+                Reading::Refused(why) => no_analog(why),
+                Reading::Read(at2) => {
+                    let Next::Field(amps, at3) = fields::field(info, at2, 2) else {
+                        return no_analog(Refusal::InfoEnds);
+                    };
+                    let Next::Field(voltage, at4) = fields::field(info, at3, 2) else {
+                        return no_analog(Refusal::InfoEnds);
+                    };
+                    let third = read_capacities(info, at4);
+                    let reading3 = third.reading;
+                    match reading3 {
+                        Reading::Refused(why) => no_analog(why),
+                        Reading::Read(at5) => {
+                            let cells = first.cells;
+                            let temperatures = second.temperatures;
+                            let current = record::current(amps);
+                            let analog = Analog {
+                                cell_count: first.count,
+                                cells: cells,
+                                temperature_count: second.count,
+                                temperatures: temperatures,
+                                current: current,
+                                voltage: voltage,
+                                remaining: third.remaining,
+                                total: third.total,
+                                cycles: third.cycles,
+                            };
+                            AnalogRead {
+                                reading: Reading::Read(at5),
+                                analog: analog,
+                            }
+                        }
+                    }
+                }
+            }
+        }
+    }
+}

@@ -1,0 +1,4 @@
+pub mod Lists
+pub mod Amounts
+pub mod Whole
+pub mod Ones

@@ -1,0 +1,6 @@
+pub mod Places
+pub mod Rows
+pub mod RowPuts
+pub mod Everys
+pub mod Counts
+pub mod Inverse

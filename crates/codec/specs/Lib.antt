@@ -1,0 +1,10 @@
+pub mod Codec
+pub mod Both
+pub mod Tested
+pub mod Seen
+pub mod Numbers
+pub mod Row
+pub mod Counted
+pub mod Whole
+pub mod Many
+pub mod Reading

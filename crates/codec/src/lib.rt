@@ -1,0 +1,1 @@
+// Codecs, their combinators and their laws: definitions only, in specs/ and proofs/.

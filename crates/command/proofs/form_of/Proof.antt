@@ -1,0 +1,33 @@
+-- Each return is one case of the definition.
+use mathlib.Core.Path.{sym, _∙_}
+use borrow.Author.Tests.{eq-eqb, ne-eqb}
+use borrow.Author.Needs.{needs}
+use Rattle.command.specs.Command.{formOf}
+use Rattle.command.proofs.form_of.Statement.{statement}
+use Rattle.command.proofs.form_of.Tie as tie
+
+kind-of-requires : tie.Need-kind-of-requires
+kind-of-requires c κs = search needs
+
+returns : tie.Need-returns
+unfolding formOf
+returns c = c .kind-of .ensures ∙ sym (simp (ne-eqb (c .before .before .args .command) 255 (c .before .if1 .taken)))
+
+returns-2 : tie.Need-returns-2
+unfolding formOf
+returns-2 c = simp (eq-eqb (c .before .before .args .command) 255 (c .before .if1 .left), eq-eqb (c .before .before .args .cid2) 66 (c .if2 .taken))
+
+returns-3 : tie.Need-returns-3
+unfolding formOf
+returns-3 c = simp (eq-eqb (c .before .before .before .args .command) 255 (c .before .before .if1 .left), ne-eqb (c .before .before .before .args .cid2) 66 (c .before .if2 .left), eq-eqb (c .before .before .before .args .cid2) 68 (c .if3 .taken))
+
+kind-of-requires-2 : tie.Need-kind-of-requires-2
+kind-of-requires-2 c κs = search needs
+
+returns-4 : tie.Need-returns-4
+unfolding formOf
+returns-4 c = c .kind-of2 .ensures ∙ sym (simp (eq-eqb (c .before .before .before .before .args .command) 255 (c .before .before .before .if1 .left), ne-eqb (c .before .before .before .before .args .cid2) 66 (c .before .before .if2 .left), ne-eqb (c .before .before .before .before .args .cid2) 68 (c .before .if3 .left)))
+
+pub form-of-spec : {M : Type 1} → statement M
+form-of-spec =
+    tie.close (tie.spec kind-of-requires returns returns-2 returns-3 kind-of-requires-2 returns-4)

@@ -1,0 +1,83 @@
+-- i bytes have been read; a turn reads one more.
+use mathlib.Core.Path.{refl}
+use Prim.Native.Nat.{_-_}
+use native.Mathlib.Omega.{arith}
+use lib.Dec.{T, ltb→lt}
+use lib.ListN.{length}
+use borrow.Author.Needs.{needs}
+use Rattle.readers.proofs.Steps.{field-went, field-ended}
+use Rattle.codec.proofs.Rows.{Filled, filled-none, filled-more, filled-stop, filled-all}
+use Rattle.codec.specs.Codec.{byte, no}
+use Rattle.hex.proofs.Laws.{bytes-unhexes}
+use Rattle.hex.specs.Hex.{unhexes}
+use Rattle.readers.proofs.fill_bytes.Statement.{statement}
+use Rattle.readers.proofs.fill_bytes.Tie as tie
+
+abbrev Inv-loop : tie.InvT-loop
+Inv-loop info from list₀ at₀ i₀ list at i = Filled byte (unhexes info) from (length list₀) list i at
+
+abbrev μ-loop : tie.MeasureT-loop
+μ-loop info from list₀ at₀ i₀ list at i = length list₀ - i
+
+loop-holds : tie.Need-loop-holds Inv-loop μ-loop
+loop-holds c = filled-none byte (unhexes (c .before .before .args .info .now)) (c .before .before .args .from) (length (c .before .before .args .list .now)) (c .before .before .args .list .now) refl
+
+field-requires : tie.Need-field-requires Inv-loop μ-loop
+field-requires c κs = search needs
+
+enum-known-value : tie.Need-enum-known-value Inv-loop μ-loop
+enum-known-value c = search needs
+
+enum-told : tie.Need-enum-told Inv-loop μ-loop
+enum-told c = search needs
+
+same-length : tie.Need-same-length Inv-loop μ-loop
+same-length c = c .before .before .before .before .loop .inv .long
+
+returns : tie.Need-returns Inv-loop μ-loop
+returns c =
+    let e = field-ended byte (unhexes (c .before .before .before .before .before .before .before .args .info .now)) (c .before .before .before .before .loop .at) (c .before .before .field .result) (c .before .before .field .ensures) (c .enum-told .given .1) in
+    filled-stop byte (unhexes (c .before .before .before .before .before .before .before .args .info .now)) (c .before .before .before .before .before .before .before .args .from) (length (c .before .before .before .before .before .before .before .args .list .now)) (c .before .before .before .before .loop .inv) (omega (arith, c .before .before .before .before .loop .inv .long)) (rw e)
+
+cast-list : tie.Need-cast-list Inv-loop μ-loop
+cast-list c = let w = field-went byte (unhexes (c .before .before .before .before .before .before .before .before .args .info .now)) (c .before .before .before .before .before .loop .at) (c .before .before .before .field .result) (c .before .before .before .field .ensures) (bytes-unhexes (c .before .before .before .before .before .before .before .before .args .info .now)) (c .before .value .given .1) in record { fits = ltb→lt (c .before .value .given .0 .0) 256 (w .ok) }
+
+slice-write-list : tie.Need-slice-write-list Inv-loop μ-loop
+slice-write-list c = search needs
+
+add-i : tie.Need-add-i Inv-loop μ-loop
+add-i c = search needs
+
+loop-less : tie.Need-loop-less Inv-loop μ-loop
+loop-less c = omega (arith, c .before .before .before .before .before .loop .inv .long)
+
+loop-again : tie.Need-loop-again Inv-loop μ-loop
+loop-again c =
+    let w = field-went byte (unhexes (c .before .before .before .before .before .before .before .before .args .info .now)) (c .before .before .before .before .before .loop .at) (c .before .before .before .field .result) (c .before .before .before .field .ensures) (bytes-unhexes (c .before .before .before .before .before .before .before .before .args .info .now)) (c .before .value .given .1) in
+    filled-more byte (unhexes (c .before .before .before .before .before .before .before .before .args .info .now)) (c .before .before .before .before .before .before .before .before .args .from) (length (c .before .before .before .before .before .before .before .before .args .list .now)) (c .before .before .before .before .before .loop .inv) (omega (arith, c .before .before .before .before .before .loop .inv .long)) (w .get) (w .place)
+
+same-length-2 : tie.Need-same-length-2 Inv-loop μ-loop
+same-length-2 c = c .before .loop .inv .long
+
+returns-2 : tie.Need-returns-2 Inv-loop μ-loop
+returns-2 c = filled-all byte (unhexes (c .before .before .before .before .args .info .now)) (c .before .before .before .before .args .from) (length (c .before .before .before .before .args .list .now)) (c .before .loop .inv) (omega (arith, c .before .loop .inv .long))
+
+pub fill-bytes-spec : {M : Type 1} → statement M
+fill-bytes-spec =
+    tie.close
+    (tie.spec
+    Inv-loop
+    μ-loop
+    loop-holds
+    field-requires
+    enum-known-value
+    enum-told
+    same-length
+    returns
+    cast-list
+    slice-write-list
+    add-i
+    loop-less
+    loop-again
+    same-length-2
+    returns-2)

@@ -1,0 +1,71 @@
+-- The paper's lines on records, computed: temperatures, currents, the two sides of 65 Ah, and 92H.
+use mathlib.Core.Path.{_≡_, refl}
+use mathlib.Core.List.{[], _∷_}
+use lib.IntN.{pos, negsuc}
+use mir.Syntax.{w16}
+use mir.Val.{toZ}
+use Rattle.codec.specs.Codec.{no}
+use Rattle.codec.specs.Whole.{told}
+use Rattle.record.specs.Meanings.{milliampsOf, tenthsCelsiusOf}
+use Rattle.record.specs.Capacities.{capacities}
+use Rattle.record.specs.Limits.{limits}
+use Rattle.record.specs.Infos.{limitsInfo}
+
+-- temperature 0BAA: 25.5
+pub temperature-0BAA : tenthsCelsiusOf (toZ w16 0x0BAA) ≡ pos 255
+temperature-0BAA = refl
+
+-- temperature 0A2F: -12.4
+pub temperature-0A2F : tenthsCelsiusOf (toZ w16 0x0A2F) ≡ negsuc 123
+temperature-0A2F = refl
+
+-- current FFD8: -4,000 mA
+pub current-FFD8 : milliampsOf (toZ w16 0xFFD8) ≡ negsuc 3999
+current-FFD8 = refl
+
+-- current 8000: -3,276,800 mA
+pub current-8000 : milliampsOf (toZ w16 0x8000) ≡ negsuc 3276799
+current-8000 = refl
+
+-- and at FFFF, 0 and 7FFF
+pub current-FFFF : milliampsOf (toZ w16 0xFFFF) ≡ negsuc 99
+current-FFFF = refl
+
+pub current-0 : milliampsOf (toZ w16 0) ≡ pos 0
+current-0 = refl
+
+pub current-7FFF : milliampsOf (toZ w16 0x7FFF) ≡ pos 3276700
+current-7FFF = refl
+
+-- total 65,000: items 2
+pub total-65000 : capacities .put (64000, (65000, 7)) ≡ 0xFA ∷ 0x00 ∷ 2 ∷ 0xFD ∷ 0xE8 ∷ 0 ∷ 7 ∷ []
+unfolding capacities
+total-65000 = refl
+
+-- total 65,001: items 4
+pub total-65001 : capacities .put (64000, (65001, 7)) ≡ 0xFF ∷ 0xFF ∷ 4 ∷ 0xFF ∷ 0xFF ∷ 0 ∷ 7 ∷ 0x00 ∷ 0xFA ∷ 0x00 ∷ 0x00 ∷ 0xFD ∷ 0xE9 ∷ []
+unfolding capacities
+total-65001 = refl
+
+-- items 3 as the last byte is 18, not 16
+pub items-3 : capacities .get (0xFA ∷ 0x00 ∷ 3 ∷ []) ≡ no 18
+unfolding capacities
+items-3 = refl
+
+-- items 2 with FFFF is 19, after the record's last byte; cut short it is 16
+pub items-2-FFFF : capacities .get (0xFF ∷ 0xFF ∷ 2 ∷ 0xFF ∷ 0xFF ∷ 0 ∷ 7 ∷ []) ≡ no 19
+unfolding capacities
+items-2-FFFF = refl
+
+pub items-2-short : capacities .get (0xFF ∷ 0xFF ∷ 2 ∷ 0xFF ∷ 0xFF ∷ 0 ∷ []) ≡ no 16
+unfolding capacities
+items-2-short = refl
+
+-- 92H INFO 02D002B79800FA00FAC0: 53,250 mV, 47,000 mV, 25.0 A twice, status C0
+pub limits-line : limitsInfo 0x02 .get (0x02 ∷ 0xD0 ∷ 0x02 ∷ 0xB7 ∷ 0x98 ∷ 0x00 ∷ 0xFA ∷ 0x00 ∷ 0xFA ∷ 0xC0 ∷ [])
+    ≡ told (0x02, record { «charge_voltage» = 53250; «discharge_voltage» = 47000; «charge_current» = pos 250; «discharge_current» = pos 250; status = 0xC0 })
+unfolding limitsInfo limits
+limits-line = refl
+
+pub limits-amps : milliampsOf (pos 250) ≡ pos 25000
+limits-amps = refl

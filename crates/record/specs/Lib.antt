@@ -1,0 +1,9 @@
+pub mod Meanings
+pub mod Address
+pub mod Zeros
+pub mod Capacities
+pub mod Analog
+pub mod Alarm
+pub mod Limits
+pub mod Texts
+pub mod Infos

@@ -1,0 +1,46 @@
+-- Refused, or the 32 bytes are handed back.
+use mathlib.Core.Path.{refl, sym, subst}
+use Prim.Native.Nat.{_-_}
+use lib.ListN.{take}
+use borrow.Author.Needs.{needs}
+use Rattle.reply.proofs.Taking.{not-read, one-refused, one-read}
+use Rattle.reply.specs.Read.{took, given, Reads}
+use Rattle.command.specs.declared.Kind.{Kind}
+use Rattle.table.specs.Table.{members}
+use Rattle.infos.specs.Nothing.{noMaker}
+use Rattle.infos.specs.Took.{bare}
+use Rattle.record.specs.Texts.{maker}
+use Rattle.hex.specs.Hex.{unhexes}
+use Rattle.reply.proofs.read_maker.Statement.{statement}
+use Rattle.reply.proofs.read_maker.Tie as tie
+
+take-maker-requires : tie.Need-take-maker-requires
+take-maker-requires c κs = search needs
+
+enum-known-taken : tie.Need-enum-known-taken
+enum-known-taken c = search needs
+
+not-read-requires : tie.Need-not-read-requires
+not-read-requires c κs = search needs
+
+enum-known-taken-2 : tie.Need-enum-known-taken-2
+enum-known-taken-2 c = search needs
+
+returns : tie.Need-returns
+unfolding took
+returns c = subst (Reads (given (c .before .before .before .before .before .before .args .ver) (members (c .before .before .before .before .before .before .args .table)) (took Kind.Maker (members (c .before .before .before .before .before .before .args .table)) (c .before .before .before .before .before .before .args .adr) (unhexes (c .before .before .before .before .before .before .args .info .now)))) (c .before .before .before .before .before .before .args .table)) (sym (c .not-read .ensures)) (one-refused noMaker bare (maker .get (unhexes (c .before .before .before .before .before .before .args .info .now))) (c .before .before .before .before .take-maker .result .taken) (c .before .before .before .before .take-maker .result .maker) (c .before .before .before .before .take-maker .ensures) (c .before .before .before .before .before .before .args .ver) (c .before .before .before .before .before .before .args .table) (λ a. (a, (members (c .before .before .before .before .before .before .args .table)))) (c .before .before .taken .given .0 .0) (c .before .before .taken .given .1))
+
+returns-2 : tie.Need-returns-2
+unfolding took
+returns-2 c = one-read noMaker bare (maker .get (unhexes (c .before .before .before .before .before .before .args .info .now))) (c .before .before .before .before .take-maker .result .taken) (c .before .before .before .before .take-maker .result .maker) (c .before .before .before .before .take-maker .ensures) (c .before .before .before .before .before .before .args .ver) (c .before .before .before .before .before .before .args .table) (λ a. (a, (members (c .before .before .before .before .before .before .args .table)))) (c .before .before .taken2 .given .0 .0) (c .before .before .taken2 .given .1) (c .before .before .before .before .take-maker .result .maker) (c .before .before .before .before .before .before .args .table) refl refl
+
+pub read-maker-spec : {M : Type 1} → statement M
+read-maker-spec =
+    tie.close
+    (tie.spec
+    take-maker-requires
+    enum-known-taken
+    not-read-requires
+    enum-known-taken-2
+    returns
+    returns-2)

@@ -1,0 +1,4 @@
+pub mod Members
+pub mod Filled
+pub mod Replies
+pub mod Maker

@@ -1,0 +1,63 @@
+-- The two call refusals, then silence or the reply.
+use mathlib.Core.Bool.{true, false}
+use mathlib.Core.Path.{sym, _∙_}
+use lib.ListN.{length, take}
+use borrow.Author.Tests.{not-true, not-false}
+use borrow.Author.Needs.{needs}
+use Rattle.standin.proofs.Replies.{answer-short, answer-broken, answer-says, says-silent}
+use Rattle.standin.specs.Answer.{says}
+use Rattle.standin.specs.Says.{decide}
+use Rattle.command.specs.Heard.{wordsOf}
+use Rattle.table.specs.Rule.{keeps}
+use Rattle.table.specs.Table.{members}
+use Rattle.standin.proofs.answer.Statement.{statement}
+use Rattle.standin.proofs.answer.Tie as tie
+
+returns : tie.Need-returns
+returns c = answer-short (keeps (c .before .before .before .args .table)) (c .before .before .before .args .station) (members (c .before .before .before .args .table)) (c .before .before .before .args .stretch .now) (c .before .before .before .args .out .now) (c .if1 .taken)
+
+keeps-rule-requires : tie.Need-keeps-rule-requires
+keeps-rule-requires c κs = search needs
+
+returns-2 : tie.Need-returns-2
+returns-2 c = answer-broken (keeps (c .before .before .before .before .before .args .table)) (c .before .before .before .before .before .args .station) (members (c .before .before .before .before .before .args .table)) (c .before .before .before .before .before .args .stretch .now) (c .before .before .before .before .before .args .out .now) (c .before .before .if1 .left) (sym (c .before .keeps-rule .ensures) ∙ not-true (c .before .keeps-rule .result) (c .if2 .taken))
+
+hear-requires : tie.Need-hear-requires
+hear-requires c κs = search needs
+
+decide-requires : tie.Need-decide-requires
+decide-requires c κs = search needs
+
+enum-told : tie.Need-enum-told
+enum-told c = search needs
+
+enum-known-said : tie.Need-enum-known-said
+enum-known-said c = search needs
+
+reply-requires : tie.Need-reply-requires
+reply-requires c κs = ((sym (c .before .before .before .before .before .before .before .keeps-rule .ensures) ∙ not-false (c .before .before .before .before .before .before .before .keeps-rule .result) (c .before .before .before .before .before .before .if2 .left)), sym (c .before .before .before .before .decide .ensures) ∙ c .before .before .said .given .1, c .before .before .before .before .before .before .before .before .if1 .left)
+
+returns-3 : tie.Need-returns-3
+returns-3 c = says-silent (c .before .before .before .before .before .before .before .before .before .args .station) (members (c .before .before .before .before .before .before .before .before .before .args .table)) (wordsOf (c .before .before .before .hear .result)) (c .before .before .before .before .before .before .before .before .before .args .out .now) ∙ answer-says (keeps (c .before .before .before .before .before .before .before .before .before .args .table)) (c .before .before .before .before .before .before .before .before .before .args .station) (members (c .before .before .before .before .before .before .before .before .before .args .table)) (c .before .before .before .before .before .before .before .before .before .args .stretch .now) (c .before .before .before .before .before .before .before .before .before .args .out .now) (c .before .before .before .before .before .before .if1 .left) (sym (c .before .before .before .before .before .keeps-rule .ensures) ∙ not-false (c .before .before .before .before .before .keeps-rule .result) (c .before .before .before .before .if2 .left)) (wordsOf (c .before .before .before .hear .result)) (c .before .before .before .hear .ensures) _ (sym (c .enum-told .given .1) ∙ (c .before .before .decide .ensures))
+
+same-length : tie.Need-same-length
+same-length c = search needs
+
+returns-4 : tie.Need-returns-4
+returns-4 c = c .before .before .reply .ensures ∙ answer-says (keeps (c .before .before .before .before .before .before .before .before .before .before .before .before .before .before .args .table)) (c .before .before .before .before .before .before .before .before .before .before .before .before .before .before .args .station) (members (c .before .before .before .before .before .before .before .before .before .before .before .before .before .before .args .table)) (c .before .before .before .before .before .before .before .before .before .before .before .before .before .before .args .stretch .now) (c .before .before .before .before .before .before .before .before .before .before .before .before .before .before .args .out .now) (c .before .before .before .before .before .before .before .before .before .before .before .if1 .left) (sym (c .before .before .before .before .before .before .before .before .before .before .keeps-rule .ensures) ∙ not-false (c .before .before .before .before .before .before .before .before .before .before .keeps-rule .result) (c .before .before .before .before .before .before .before .before .before .if2 .left)) (wordsOf (c .before .before .before .before .before .before .before .before .hear .result)) (c .before .before .before .before .before .before .before .before .hear .ensures) _ (sym (c .before .before .before .before .before .said .given .1) ∙ (c .before .before .before .before .before .before .before .decide .ensures))
+
+pub answer-spec : {M : Type 1} → statement M
+answer-spec =
+    tie.close
+    (tie.spec
+    returns
+    keeps-rule-requires
+    returns-2
+    hear-requires
+    decide-requires
+    enum-told
+    enum-known-said
+    reply-requires
+    returns-3
+    same-length
+    returns-4)

@@ -1,0 +1,112 @@
+-- The stand-in's answer: call refusals 32 and 31, silence, or a reply from SOI to CR; an accepted 95H switches its module off.
+use mathlib.Core.Path.{_≡_}
+use mathlib.Core.Bool.{Bool, true, false, cond}
+use mathlib.Core.List.{List, [], _∷_, _++_}
+use Prim.Native.Nat.{ℕ}
+use lib.ListN.{length, drop, getD, set}
+use lib.Dec.{ltb, eqb}
+use Rattle.refusal.specs.Number.{number}
+use Rattle.frame.specs.declared.Header.{Header}
+use Rattle.frame.specs.Frame.{encode}
+use Rattle.record.specs.declared.Module.{Module}
+use Rattle.record.specs.Infos.{analogInfo, alarmInfo, limitsInfo, serialInfo, versionInfo, analogGroup, alarmGroup}
+use Rattle.table.specs.declared.Station.{Station}
+use Rattle.table.specs.Table.{blank, placeOf, memberAt}
+use Rattle.command.specs.declared.Kind.{Kind}
+use Rattle.command.specs.declared.Kind.the-variants.{Analog, AnalogGroup, Alarm, AlarmGroup, Protocol, Maker, Limits, Serial, TurnOff, Version, Unserved}
+use Rattle.command.specs.Command.{formOf}
+use Rattle.command.specs.Heard.{Words, words}
+use Rattle.changes.specs.Changes.{switchedOff}
+use Rattle.groups.specs.Groups.{analogsOn, alarmsOn}
+use Rattle.standin.specs.declared.Said.{Said}
+use Rattle.standin.specs.declared.Said.the-variants.{Silent, Code}
+use Rattle.standin.specs.declared.Answered.{Answered}
+use Rattle.standin.specs.declared.Answered.the-variants.{Silence, Reply, Refused}
+use Rattle.standin.specs.declared.Replied.{Replied}
+use Rattle.standin.specs.Says.{decide}
+
+-- the data of each command; the flag is 00H
+unfoldable pub infoBy : Kind → Station → List Module → ℕ → List ℕ
+infoBy Analog st ms adr = analogInfo adr .put ((0, adr), memberAt adr ms .analog)
+infoBy AnalogGroup st ms adr = analogGroup .put ((0, 0xFF), analogsOn ms)
+infoBy Alarm st ms adr = alarmInfo adr .put ((0, adr), memberAt adr ms .alarm)
+infoBy AlarmGroup st ms adr = alarmGroup .put ((0, 0xFF), alarmsOn ms)
+infoBy Protocol st ms adr = []
+infoBy Maker st ms adr = st .maker
+infoBy Limits st ms adr = limitsInfo adr .put (adr, memberAt adr ms .limits)
+infoBy Serial st ms adr = serialInfo adr .put (adr, memberAt adr ms .serial)
+infoBy TurnOff st ms adr = []
+infoBy Version st ms adr = versionInfo adr .put (adr, memberAt adr ms .version)
+infoBy Unserved st ms adr = []
+
+abbrev pub kindAsked : Words → Kind
+kindAsked w = formOf (w .header .cid2) (w .command)
+
+-- codes other than 00H carry no INFO
+unfoldable pub infoFor : Station → List Module → Words → ℕ → List ℕ
+infoFor st ms w code = cond (eqb code 0) (infoBy (kindAsked w) st ms (w .header .adr)) []
+
+-- a reply has the table's VER, the ADR received, CID1 46H, the code as CID2
+abbrev pub replyHeader : Station → Words → ℕ → Header
+replyHeader st w code = record { ver = st .ver; adr = w .header .adr; cid1 = 0x46; cid2 = code }
+
+-- only an accepted 95H changes the table: the place of the module that goes off; 12, past every record, where none does
+unfoldable pub offBy : Kind → List Module → ℕ → ℕ
+offBy Analog ms adr = 12
+offBy AnalogGroup ms adr = 12
+offBy Alarm ms adr = 12
+offBy AlarmGroup ms adr = 12
+offBy Protocol ms adr = 12
+offBy Maker ms adr = 12
+offBy Limits ms adr = 12
+offBy Serial ms adr = 12
+offBy TurnOff ms adr = placeOf adr ms
+offBy Version ms adr = 12
+offBy Unserved ms adr = 12
+
+unfoldable pub offFor : List Module → Words → ℕ → ℕ
+offFor ms w code = cond (eqb code 0) (offBy (kindAsked w) ms (w .header .adr)) 12
+
+-- the record at that place switched off; past the end nothing changes
+unfoldable pub offAt : ℕ → List Module → List Module
+offAt place ms = set ms place (switchedOff (getD ms place blank))
+
+-- silence, a reply of so many bytes, or a refusal with its number
+pub data Outcome : Type 0 where
+  silence : Outcome
+  reply : ℕ → Outcome
+  refused : ℕ → Outcome
+
+abbrev pub paper : Answered → Outcome
+paper Silence = silence
+paper (Reply n) = reply n
+paper (Refused r) = refused (number r)
+
+-- the outcome, the place that goes off, and the lent buffer then
+pub record Left : Type 0 where
+  pub outcome : Outcome
+  pub off : ℕ
+  pub out : List ℕ
+
+abbrev pub leaves : Outcome → ℕ → List ℕ → Left
+leaves outcome off out = record { outcome = outcome; off = off; out = out }
+
+abbrev pub written : List ℕ → List ℕ → List ℕ
+written text out = text ++ drop (length text) out
+
+unfoldable pub says : Station → List Module → Words → Said → List ℕ → Left
+says st ms w Silent out = leaves silence 12 out
+says st ms w (Code code) out =
+    let text = encode (replyHeader st w code) (infoFor st ms w code) in
+    leaves (reply (length text)) (offFor ms w code) (written text out)
+
+-- 32 (4,112 bytes), 31, then what is said
+unfoldable pub answer : Bool → Station → List Module → List ℕ → List ℕ → Left
+answer keeps st ms stretch out =
+    cond (ltb (length out) 4112) (leaves (refused 32) 12 out)
+    (cond keeps (says st ms (words stretch) (decide st ms (words stretch)) out)
+    (leaves (refused 31) 12 out))
+
+-- the contract of the stand-in
+abbrev pub Answers : Left → Replied → List ℕ → Type 0
+Answers left r out = leaves (paper (r .answered)) (r .off) out ≡ left

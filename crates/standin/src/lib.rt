@@ -1,0 +1,221 @@
+// The stand-in: what it says to a stretch, over the table by value.
+
+ghost use mathlib.Core.Path.{_≡_};
+ghost use mathlib.Core.Bool.{true};
+ghost use mathlib.Core.List.{_++_};
+ghost use Prim.Native.Nat.{_≤_};
+ghost use lib.ListN.{length, drop};
+ghost use Rattle.buffer.specs.Writing.{wrote, leaves, Writes};
+ghost use Rattle.table.specs.Table.{isOn, memberAt};
+ghost use Rattle.table.specs.Rule.{keeps};
+ghost use Rattle.table.specs.Table.{members};
+ghost use Rattle.command.specs.Heard.{wordsOf};
+ghost use Rattle.standin.specs.Says.{decide};
+ghost use Rattle.standin.specs.Answer.{infoBy, offBy, says, answer, Answers};
+ghost use Rattle.buffer.specs.Writing.{paper as paperWritten, lengthOf};
+use buffer::Written;
+use command::Heard;
+use command::Kind;
+use frame::Header;
+use refusal::Refusal;
+use table::Station;
+use table::Table;
+
+// What the stand-in says: nothing, or a return code.
+pub enum Said {
+    Silent,
+    Code(u8),
+}
+
+// The silences, then the first of the eleven steps that applies.
+pub fn decide(station: Station, table: Table, heard: Heard) -> Said
+    ensures { λ r. ⌜ r ≡ decide station (members table) (wordsOf heard) ⌝ }
+{
+    let judged = heard.judged;
+    let number = command::number_of(judged);
+    let header = heard.header;
+    let adr = header.adr;
+    let asked = heard.command;
+    let member = table::member_at(table, adr);
+    let terms = command::terms_of(command::kind_of(header.cid2));
+    let deaf = ((number == 1) | (number == 3)) | (number == 4);
+    if deaf {
+        return Said::Silent;
+    }
+    let off = !(member.on == 1);
+    if off {
+        return Said::Silent;
+    }
+    let lchksum = number == 5;
+    if lchksum {
+        return Said::Code(0x03);
+    }
+    let length = (number == 6) | (number == 7);
+    if length {
+        return Said::Code(0x05);
+    }
+    let chksum = number == 8;
+    if chksum {
+        return Said::Code(0x02);
+    }
+    let foreign = !(header.cid1 == 0x46);
+    if foreign {
+        return Said::Code(0x05);
+    }
+    let unserved = !terms.served;
+    if unserved {
+        return Said::Code(0x04);
+    }
+    let version = terms.same_ver & !(header.ver == station.ver);
+    if version {
+        return Said::Code(0x01);
+    }
+    let unlike = !(heard.lenid == terms.lenid);
+    if unlike {
+        return Said::Code(0x05);
+    }
+    let plain = !terms.has_command;
+    if plain {
+        return Said::Code(0x00);
+    }
+    let group = asked == 0xFF;
+    let may = terms.has_group & table::is_master(adr);
+    let stray = group & !may;
+    if stray {
+        return Said::Code(0x06);
+    }
+    let other = !group & !(asked == adr);
+    if other {
+        return Said::Code(0x90);
+    }
+    let any = table::any_fault(table);
+    let fault = (group & any) | (!group & (member.link_fault == 1));
+    if fault {
+        return Said::Code(0x91);
+    }
+    Said::Code(0x00)
+}
+
+// What the stand-in does: silence, a reply of so many bytes, or a refusal.
+pub enum Answered {
+    Silence,
+    Reply(usize),
+    Refused(Refusal),
+}
+
+// That, and the place of the record that goes off: 12, past every record, where none does.
+pub struct Replied {
+    pub answered: Answered,
+    pub off: usize,
+}
+
+// Writes the data of a command, for a member that is on.
+fn fill(info: &mut [u8], station: Station, table: Table, kind: Kind, adr: u8) -> Written
+    requires { ⌜ (keeps table ≡ true) × (isOn (memberAt adr (members table)) ≡ true) × (816 ≤ length (now info)) ⌝ }
+    ensures { λ r. ⌜ Writes (leaves (wrote (length (infoBy kind station (members table) adr))) (infoBy kind station (members table) adr ++ drop (length (infoBy kind station (members table) adr)) (now (info .entry)))) r (now (info .exit)) ⌝ }
+{
+    let member = table::member_at(table, adr);
+    match kind {
+        Kind::Analog => analog_writer::write_analog(info, 0, member),
+        Kind::AnalogGroup => groups::write_analog_group(info, 0, table),
+        Kind::Alarm => alarm_writer::write_alarm(info, 0, member),
+        Kind::AlarmGroup => groups::write_alarm_group(info, 0, table),
+        Kind::Protocol => Written::Wrote(0),
+        Kind::Maker => {
+            let maker = station.maker;
+            Written::Wrote(buffer::put_all(info, 0, &maker))
+        }
+        Kind::Limits => writers::write_limits(info, member),
+        Kind::Serial => writers::write_serial(info, member),
+        Kind::TurnOff => Written::Wrote(0),
+        Kind::Version => writers::write_version(info, member),
+        Kind::Unserved => Written::Wrote(0),
+    }
+}
+
+// The place of the record that goes off.
+fn goes_off(table: Table, kind: Kind, adr: u8) -> usize
+    ensures { λ r. ⌜ r ≡ offBy kind (members table) adr ⌝ }
+{
+    match kind {
+        Kind::Analog => 12,
+        Kind::AnalogGroup => 12,
+        Kind::Alarm => 12,
+        Kind::AlarmGroup => 12,
+        Kind::Protocol => 12,
+        Kind::Maker => 12,
+        Kind::Limits => 12,
+        Kind::Serial => 12,
+        Kind::TurnOff => table::place_of(table, adr),
+        Kind::Version => 12,
+        Kind::Unserved => 12,
+    }
+}
+
+fn length_of(written: Written) -> usize
+    ensures { λ r. ⌜ r ≡ lengthOf (paperWritten written) ⌝ }
+{
+    match written {
+        Written::Wrote(n) => n,
+        Written::Refused(_) => 0,
+    }
+}
+
+// Writes the reply with a code.
+fn reply(station: Station, table: Table, heard: Heard, code: u8, out: &mut [u8]) -> Replied
+    requires { ⌜ (keeps table ≡ true) × (decide station (members table) (wordsOf heard) ≡ Said.Code code) × (4112 ≤ length (now out)) ⌝ }
+    ensures { λ r. ⌜ Answers (says station (members table) (wordsOf heard) (Said.Code code) (now (out .entry))) r (now (out .exit)) ⌝ }
+{
+    let asked = heard.header;
+    let adr = asked.adr;
+    let header = Header {
+        ver: station.ver,
+        adr,
+        cid1: 0x46,
+        cid2: code,
+    };
+    let mut info = [0u8; 816];
+    if code != 0 {
+        let refused = frame::write(header, &info[..0], out);
+        return Replied {
+            answered: Answered::Reply(length_of(refused)),
+            off: 12,
+        };
+    }
+    let kind = command::form_of(asked.cid2, heard.command);
+    let filled = fill(&mut info, station, table, kind, adr);
+    let n = length_of(filled);
+    let off = goes_off(table, kind, adr);
+    let written = frame::write(header, &info[..n], out);
+    Replied {
+        answered: Answered::Reply(length_of(written)),
+        off,
+    }
+}
+
+// The answer to a stretch, the bytes between SOI and CR: 32 for a buffer below 4,112 bytes, 31, then silence or a reply.
+pub fn answer(station: Station, table: Table, stretch: &[u8], out: &mut [u8]) -> Replied
+    ensures { λ r. ⌜ Answers (answer (keeps table) station (members table) (now (stretch .entry)) (now (out .entry))) r (now (out .exit)) ⌝ }
+{
+    if out.len() < 4112 {
+        return Replied {
+            answered: Answered::Refused(Refusal::BufferTooShort),
+            off: 12,
+        };
+    }
+    if !rules::keeps_rule(table) {
+        return Replied {
+            answered: Answered::Refused(Refusal::TableBreaksRule),
+            off: 12,
+        };
+    }
+    let heard = command::hear(stretch);
+    let said = decide(station, table, heard);
+    match said {
+        Said::Silent => Replied {
+            answered: Answered::Silence,
+            off: 12,
+        },
+        Said::Code(code) => reply(station, table, heard, code, out),
+    }
+}

@@ -1,0 +1,25 @@
+-- The bytes themselves.
+use Prim.Native.Nat.{_-_}
+use lib.Dec.{T}
+use lib.ListN.{length}
+use borrow.Author.Needs.{needs}
+use Rattle.writers.proofs.Texts.{version-text}
+use Rattle.record.specs.Texts.{version}
+use Rattle.writers.proofs.put_version.Statement.{statement}
+use Rattle.writers.proofs.put_version.Tie as tie
+
+slice-aggregate-put-all : tie.Need-slice-aggregate-put-all
+slice-aggregate-put-all c = search needs
+
+put-all-requires : tie.Need-put-all-requires
+put-all-requires c κs = rw (version-text (c .before .before .before .args .t3)) at (c .before .before .before .pre)
+
+same-length : tie.Need-same-length
+same-length c = search needs
+
+returns : tie.Need-returns
+returns c = rw (← (version-text (c .before .before .before .before .before .before .args .t3))) at (c .before .before .put-all .ensures)
+
+pub put-version-spec : {M : Type 1} → statement M
+put-version-spec =
+    tie.close (tie.spec slice-aggregate-put-all put-all-requires same-length returns)
