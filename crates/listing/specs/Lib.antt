@@ -1,0 +1,4 @@
+pub mod Text
+pub mod Block
+pub mod Stream
+pub mod Piece
