@@ -116,7 +116,6 @@ module _ (l : Listing) (store : List ℕ) (room : ℕ) (b : ℕ) (bs : List ℕ)
   unfolding lines
   goes-on n h k ih =
       let m = k .taken in
-
       let bl : ℕ → List Block = λ (x : ℕ). blockOf (x - (k .held + 2)) (k .told) (k .store) in
       let next : ℕ → Listing = λ (x : ℕ). record { receiver = k .next; offset = x; frames = framesThen (l .frames) (k .told); refusals = refusalsThen (l .refusals) (k .told) } in
       let tail : ℕ → List ℕ → Part = λ (x : ℕ) (s : List ℕ). listing (next x) (k .store) (room - length (lines (bl x))) s in

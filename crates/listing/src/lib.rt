@@ -194,7 +194,14 @@ fn put_totals(out: &mut [u8], frames: u32, refusals: u32) -> usize
 }
 
 // Puts the lines of a frame whose INFO stands in the store.
-fn put_stored(out: &mut [u8], at: usize, soi: u32, header: Header, lenid: usize, store: &[u8]) -> usize
+fn put_stored(
+    out: &mut [u8],
+    at: usize,
+    soi: u32,
+    header: Header,
+    lenid: usize,
+    store: &[u8],
+) -> usize
     requires { ⌜ (at + 4200 ≤ length (now out)) × (4110 ≤ length (now store)) × (lenid ≤ 4094) ⌝ }
     ensures { λ r. ⌜ Put (now (out .entry)) at (frameLines soi header (infoAt lenid (now (store .entry)))) (now (out .exit)) r ⌝ }
 {

@@ -45,7 +45,7 @@ loop-less : tie.Need-loop-less Inv-loop μ-loop
 loop-less c = omega (arith, c .before .before .pre .fits, digits-length (c .before .before .args .k) (c .before .before .args .n))
 
 loop-again : tie.Need-loop-again Inv-loop μ-loop
-loop-again c = 
+loop-again c =
     let l = c .before .loop in
     let a = c .before .before .args in
     (simp length-set (l .inv .0), omega arith, digits-turn (l .out) (a .at) (l .i) (l .rest) (c .loop-test .taken) (omega (arith, c .before .before .pre .fits, digits-length (c .before .before .args .k) (c .before .before .args .n))) ∙ l .inv .2)
@@ -57,7 +57,7 @@ same-length : tie.Need-same-length Inv-loop μ-loop
 same-length c = omega (arith, c .before .before .pre .fits, digits-length (c .before .before .args .k) (c .before .before .args .n))
 
 returns : tie.Need-returns Inv-loop μ-loop
-returns c = 
+returns c =
     let l = c .before .loop in
     let a = c .before .before .args in
     let none : 0 ≡ l .i = omega arith in

@@ -17,7 +17,7 @@ slice-aggregate-put-number-line c = search needs
 
 put-number-line-requires : tie.Need-put-number-line-requires
 unfolding frameLines
-put-number-line-requires c κs = 
+put-number-line-requires c κs =
     let one = line AT (decimal (c .before .before .before .before .args .soi)) in
     let two = line VER (pairOf (c .before .before .before .before .args .header .ver)) in
     let three = line ADR (pairOf (c .before .before .before .before .args .header .adr)) in
@@ -37,7 +37,7 @@ slice-aggregate-put-byte-line c = search needs
 
 put-byte-line-requires : tie.Need-put-byte-line-requires
 unfolding frameLines
-put-byte-line-requires c κs = 
+put-byte-line-requires c κs =
     let one = line AT (decimal (c .before .before .before .before .before .before .before .before .before .args .soi)) in
     let two = line VER (pairOf (c .before .before .before .before .before .before .before .before .before .args .header .ver)) in
     let three = line ADR (pairOf (c .before .before .before .before .before .before .before .before .before .args .header .adr)) in
@@ -57,7 +57,7 @@ slice-aggregate-put-byte-line-2 c = search needs
 
 put-byte-line-requires-2 : tie.Need-put-byte-line-requires-2
 unfolding frameLines
-put-byte-line-requires-2 c κs = 
+put-byte-line-requires-2 c κs =
     let one = line AT (decimal (c .before .before .before .before .before .before .before .before .before .before .before .before .before .before .args .soi)) in
     let two = line VER (pairOf (c .before .before .before .before .before .before .before .before .before .before .before .before .before .before .args .header .ver)) in
     let three = line ADR (pairOf (c .before .before .before .before .before .before .before .before .before .before .before .before .before .before .args .header .adr)) in
@@ -77,7 +77,7 @@ slice-aggregate-put-byte-line-3 c = search needs
 
 put-byte-line-requires-3 : tie.Need-put-byte-line-requires-3
 unfolding frameLines
-put-byte-line-requires-3 c κs = 
+put-byte-line-requires-3 c κs =
     let one = line AT (decimal (c .before .before .before .before .before .before .before .before .before .before .before .before .before .before .before .before .before .before .before .args .soi)) in
     let two = line VER (pairOf (c .before .before .before .before .before .before .before .before .before .before .before .before .before .before .before .before .before .before .before .args .header .ver)) in
     let three = line ADR (pairOf (c .before .before .before .before .before .before .before .before .before .before .before .before .before .before .before .before .before .before .before .args .header .adr)) in
@@ -97,7 +97,7 @@ slice-aggregate-put-byte-line-4 c = search needs
 
 put-byte-line-requires-4 : tie.Need-put-byte-line-requires-4
 unfolding frameLines
-put-byte-line-requires-4 c κs = 
+put-byte-line-requires-4 c κs =
     let one = line AT (decimal (c .before .before .before .before .before .before .before .before .before .before .before .before .before .before .before .before .before .before .before .before .before .before .before .before .args .soi)) in
     let two = line VER (pairOf (c .before .before .before .before .before .before .before .before .before .before .before .before .before .before .before .before .before .before .before .before .before .before .before .before .args .header .ver)) in
     let three = line ADR (pairOf (c .before .before .before .before .before .before .before .before .before .before .before .before .before .before .before .before .before .before .before .before .before .before .before .before .args .header .adr)) in
@@ -117,7 +117,7 @@ slice-aggregate-put-text-line c = search needs
 
 put-text-line-requires : tie.Need-put-text-line-requires
 unfolding frameLines
-put-text-line-requires c κs = 
+put-text-line-requires c κs =
     let one = line AT (decimal (c .before .before .before .before .before .before .before .before .before .before .before .before .before .before .before .before .before .before .before .before .before .before .before .before .before .before .before .before .before .args .soi)) in
     let two = line VER (pairOf (c .before .before .before .before .before .before .before .before .before .before .before .before .before .before .before .before .before .before .before .before .before .before .before .before .before .before .before .before .before .args .header .ver)) in
     let three = line ADR (pairOf (c .before .before .before .before .before .before .before .before .before .before .before .before .before .before .before .before .before .before .before .before .before .before .before .before .before .before .before .before .before .args .header .adr)) in
@@ -137,7 +137,7 @@ same-length c = search needs
 
 returns : tie.Need-returns
 unfolding frameLines
-returns c = 
+returns c =
     let one = line AT (decimal (c .before .before .before .before .before .before .before .before .before .before .before .before .before .before .before .before .before .before .before .before .before .before .before .before .before .before .before .before .before .before .before .before .args .soi)) in
     let two = line VER (pairOf (c .before .before .before .before .before .before .before .before .before .before .before .before .before .before .before .before .before .before .before .before .before .before .before .before .before .before .before .before .before .before .before .before .args .header .ver)) in
     let three = line ADR (pairOf (c .before .before .before .before .before .before .before .before .before .before .before .before .before .before .before .before .before .before .before .before .before .before .before .before .before .before .before .before .before .before .before .before .args .header .adr)) in

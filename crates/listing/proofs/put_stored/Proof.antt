@@ -25,7 +25,7 @@ part-put-frame-end : tie.Need-part-put-frame-end
 part-put-frame-end c = search needs
 
 put-frame-requires : tie.Need-put-frame-requires
-put-frame-requires c κs = 
+put-frame-requires c κs =
     let a = c .before .before .before .before .args in
     let info : List ℕ = take (12 + a .lenid - 12) (drop 12 (a .store .now)) in
     let n : length info ≡ 12 + a .lenid - 12 = length-take-le (12 + a .lenid - 12) (drop 12 (a .store .now)) (omega (arith, c .before .before .before .before .pre, length-drop 12 (a .store .now))) in
@@ -35,7 +35,7 @@ same-length : tie.Need-same-length
 same-length c = search needs
 
 returns : tie.Need-returns
-returns c = 
+returns c =
     let a = c .before .before .before .before .before .before .before .args in
     let e : 12 + a .lenid - 12 ≡ a .lenid = omega arith in
     subst (λ (m : ℕ). Put (a .out .now) (a .at) (frameLines (a .soi) (a .header) (take m (drop 12 (a .store .now)))) (c .before .before .put-frame .last .0) (c .before .before .put-frame .result)) e (c .before .before .put-frame .ensures)

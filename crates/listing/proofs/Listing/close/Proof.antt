@@ -21,7 +21,7 @@ same-length : tie.Need-same-length
 same-length c = search needs
 
 returns-2 : tie.Need-returns-2
-returns-2 c = 
+returns-2 c =
     let a = c .before .before .before .before .before .before .args in
     writing-all 32 (totals (a .self .frames) (a .self .refusals)) (a .out .now) _ (le-leb 38 (length (a .out .now)) (c .before .before .before .before .if1 .left))
     (omega (arith, c .before .before .before .before .if1 .left, totals-short (a .self .frames) (a .self .refusals) (search needs) (search needs))) _ _ (c .before .before .put-totals .ensures)

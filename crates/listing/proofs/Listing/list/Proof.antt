@@ -39,7 +39,7 @@ slice-aggregate-list-within : tie.Need-slice-aggregate-list-within
 slice-aggregate-list-within c = sym (length-take-le _ _ (least-le (c .before .before .before .left .result) (length (c .before .before .before .before .before .before .before .before .before .before .before .args .piece .now)) (c .before .before .least .result) (c .before .before .least .ensures) .1))
 
 list-within-requires : tie.Need-list-within-requires
-list-within-requires c κs = 
+list-within-requires c κs =
     let le = least-le (c .before .before .before .before .left .result) (length (c .before .before .before .before .before .before .before .before .before .before .before .before .args .piece .now)) (c .before .before .before .least .result) (c .before .before .before .least .ensures) in
     let cut = length-take-le (c .before .before .before .least .result) (c .before .before .before .before .before .before .before .before .before .before .before .before .args .piece .now) (le .1) in
     (c .before .before .before .before .before .before .before .before .if1 .left, not-beyond (c .before .before .before .before .before .before .before .before .before .before .before .before .args .self .receiver) (sym (c .before .before .before .before .before .before .is-beyond .ensures) ∙ c .before .before .before .before .before .if3 .left), omega (arith, cut, le .0, c .before .before .before .before .left .ensures))
@@ -51,7 +51,7 @@ same-length-2 : tie.Need-same-length-2
 same-length-2 c = search needs
 
 returns-4 : tie.Need-returns-4
-returns-4 c = 
+returns-4 c =
     let few = ap (λ (k : ℕ). cond (ltb k (length (c .before .before .before .before .before .before .before .before .before .before .before .before .before .before .before .before .before .before .args .piece .now))) k (length (c .before .before .before .before .before .before .before .before .before .before .before .before .before .before .before .before .before .before .args .piece .now))) (c .before .before .before .before .before .before .before .before .before .before .left .ensures) in
     list-puts (c .before .before .before .before .before .before .before .before .before .before .before .before .before .before .before .before .before .before .args .self) (c .before .before .before .before .before .before .before .before .before .before .before .before .before .before .before .before .before .before .args .store .now) (c .before .before .before .before .before .before .before .before .before .before .before .before .before .before .before .before .before .before .args .piece .now) (c .before .before .before .before .before .before .before .before .before .before .before .before .before .before .before .before .before .before .args .out .now) (c .before .before .before .before .before .before .before .before .before .least .result) (c .before .before .before .before .before .list-within .result) (c .before .before .before .before .before .list-within .last .1 .0) (c .before .before .before .before .before .list-within .last .1 .1 .1 .0) (c .before .before .before .before .before .before .before .before .before .before .before .before .before .before .if1 .left) (c .before .before .before .before .before .before .before .before .before .before .before .before .before .if2 .left)
     (sym (c .before .before .before .before .before .before .before .before .before .before .before .before .is-beyond .ensures) ∙ c .before .before .before .before .before .before .before .before .before .before .before .if3 .left) (c .before .before .before .before .before .before .before .before .before .least .ensures ∙ few) (c .before .before .before .before .before .list-within .ensures)
