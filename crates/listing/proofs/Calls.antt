@@ -6,7 +6,7 @@ use Prim.Native.Nat.{ℕ, zero, suc, _+_, _-_, _%_, _≤_, _<_}
 use native.Mathlib.Nat.{add-zero, add-assoc}
 use native.Mathlib.Numerals.{add-one, one-add}
 use native.Mathlib.Omega.{arith}
-use lib.ListN.{length, take, drop, length-drop, take-append-drop}
+use lib.ListN.{length, take, drop, length-take, take-append-drop}
 use lib.Seq.{length-take-le, take-nil, drop-nil, take-at, take-take, drop-append-le}
 use lib.Dec.{T, leb, ltb, leb→le, ltb→lt, nltb→le}
 use borrow.Author.Tests.{le-leb, le-ltb}
@@ -144,11 +144,6 @@ drop-take (suc t) zero s = let e : 0 ≡ 0 - suc t = omega arith in ap (λ (j : 
 drop-take (suc t) (suc k) [] = sym (take-nil (suc k - suc t))
 drop-take (suc t) (suc k) (x ∷ s) = let e : k - t ≡ suc k - suc t = omega arith in drop-take t k s ∙ ap (λ (j : ℕ). take j (drop t s)) e
 
-take-few : (k : ℕ) (s : List ℕ) → length (take k s) ≤ k
-take-few zero s = omega arith
-take-few (suc k) [] = omega arith
-take-few (suc k) (x ∷ s) = omega (arith, take-few k s)
-
 -- ---- calls
 
 record Stood (l : Listing) (store stream : List ℕ) (next : Listing) (store′ rest said : List ℕ) : Type 0 where
@@ -172,7 +167,7 @@ module _ (l : Listing) (store stream : List ℕ) (s : Sound l store) (most : ℕ
       let piece : List ℕ = take (left l) (take most stream) in
       let more : List ℕ = drop most all in
       let p : Part = listing l store (length out) piece in
-      let g : Gone l store piece p = gone piece l store (length out) s (take-few (left l) (take most stream)) in
+      let g : Gone l store piece p = gone piece l store (length out) s (omega (arith, length-take (left l) (take most stream))) in
       let cut : piece ++ more ≡ all = ap (λ (x : List ℕ). x ++ more) (take-swap (left l) most stream) ∙ take-append-drop most all in
       let less : left l - p .taken ≡ left (p .next) = omega (arith, g .offset) in
       let after : drop (p .taken) piece ++ more ≡ take (left (p .next)) (drop (p .taken) stream) =

@@ -6,12 +6,13 @@ use Prim.Native.Nat.{ℕ, zero, suc, _+_, _-_, _*_, _≤_, _<_}
 use native.Mathlib.Nat.{add-zero, zero-add, add-assoc}
 use native.Mathlib.Numerals.{one-add}
 use native.Mathlib.Omega.{arith}
-use lib.ListN.{length, take, drop, length-append, length-drop, drop-of-length-le}
+use lib.ListN.{length, take, drop, length-append, length-take, length-drop, drop-of-length-le}
 use lib.Seq.{length-take-le, drop-drop, take-all}
 use lib.Dec.{leb, ltb, ltb→lt, nltb→le}
 use borrow.Author.Tests.{le-leb, lt-leb, lt-ltb, le-ltb}
 use Rattle.buffer.specs.Put.{puts, Room, Put}
-use Rattle.buffer.specs.Writing.{wrote, refused as refusedBy, leaves}
+use Rattle.buffer.specs.declared.Written.{Written}
+use Rattle.buffer.specs.Writing.{wrote, refused as refusedBy, Left, leaves, writing, Writes}
 use Rattle.buffer.proofs.Lists.{never, by-cond}
 use Rattle.buffer.proofs.Puts.{put-then, put-none, puts-front}
 use Rattle.frame.specs.Judge.{Told, nothing, frame, refused, judge}
@@ -26,9 +27,10 @@ use Rattle.receiver.proofs.Rows.{step-within}
 use Rattle.receiver.proofs.Running.{run-within-is}
 use Rattle.receiver.proofs.Receive.{Fits, after-fits}
 use Rattle.listing.specs.declared.Listing.{Listing}
+use Rattle.listing.specs.declared.Listed.{Listed}
 use Rattle.listing.specs.declared.Part.{Part as PartOf}
-use Rattle.listing.specs.Block.{Block, blockOf, lines}
-use Rattle.listing.specs.Piece.{left, framesThen, refusalsThen, onward, soiOf, Part, rests, behind, listing, Call, refuses, prints, list, turn, lenidOf, Puts}
+use Rattle.listing.specs.Block.{Block, blockOf, lines, totals}
+use Rattle.listing.specs.Piece.{left, framesThen, refusalsThen, onward, soiOf, Part, rests, behind, listing, Call, refuses, prints, list, Lists, closing, Inside, turn, lenidOf, Puts}
 use Rattle.listing.proofs.Texts.{lines-join}
 
 -- ---- LENID is never above 4,094
@@ -345,3 +347,60 @@ module _ (l : Listing) (store piece out : List ℕ) where
       ∙ ap (λ (x : List ℕ). record { next = w .next; store = w .store; taken = w .taken; left = leaves (wrote (length text)) x }) (p .put .is ∙ puts-front out text)
       ∙ ap (λ (x : List ℕ). prints (listing l store (length out) x) out) cut
       ∙ list-is h k e
+
+-- ---- what a caller may lean on, of any listing
+
+listing-few : (piece : List ℕ) (l : Listing) (store : List ℕ) (room : ℕ) → listing l store room piece .taken ≤ length piece
+unfolding listing
+listing-few [] l store room = omega arith
+listing-few (b ∷ bs) l store room =
+    let a = step (l .receiver) store b in
+    let block = blockOf (soiOf l) (a .told) (a .store) in
+    by-cond (λ (p : Part). p .taken ≤ suc (length bs)) (leb 4200 room)
+    (λ t. omega (arith, listing-few bs (onward l 1 (a .next) (a .told)) (a .store) (room - length (lines block))))
+    (λ t. omega arith)
+
+abbrev InsideOf : Left → Type 0
+InsideOf w = (n : ℕ) → w .outcome ≡ wrote n → n ≤ length (w .out)
+
+refused-inside : (k : ℕ) (out : List ℕ) → InsideOf (leaves (refusedBy k) out)
+refused-inside k out n e = never (cc)
+
+text-inside : (t rest : List ℕ) → InsideOf (leaves (wrote (length t)) (t ++ rest))
+text-inside t rest n e = let k : n ≡ length t = cc in omega (arith, length-append t rest)
+
+module _ (l : Listing) (store piece out : List ℕ) where
+  p : Part
+  p = listing l store (length out) (take (left l) piece)
+
+  list-few : list l store piece out .taken ≤ length piece
+  unfolding list p
+  list-few =
+      by-cond (λ (a : Call). a .taken ≤ length piece) (ltb (length store) 4110) (λ t. omega arith)
+      (λ t. by-cond (λ (a : Call). a .taken ≤ length piece) (ltb (length out) 4200) (λ t. omega arith)
+      (λ t. by-cond (λ (a : Call). a .taken ≤ length piece) (beyond (l .receiver)) (λ t. omega arith)
+      (λ t. omega (arith, listing-few (take (left l) piece) l store (length out), length-take (left l) piece))))
+
+  list-inside : InsideOf (list l store piece out .left)
+  unfolding list p
+  list-inside =
+      by-cond (λ (a : Call). InsideOf (a .left)) (ltb (length store) 4110) (λ t. refused-inside 32 out)
+      (λ t. by-cond (λ (a : Call). InsideOf (a .left)) (ltb (length out) 4200) (λ t. refused-inside 32 out)
+      (λ t. by-cond (λ (a : Call). InsideOf (a .left)) (beyond (l .receiver)) (λ t. refused-inside 35 out)
+      (λ t. text-inside (lines (p .blocks)) (drop (length (lines (p .blocks))) out))))
+
+  module _ (answer : Listed) (store′ out′ : List ℕ) (e : Lists l store piece out answer store′ out′) where
+    pub lists-few : answer .taken ≤ length piece
+    lists-few = subst (λ (a : Call). a .taken ≤ length piece) (sym e) list-few
+
+    pub lists-inside : Inside (answer .written) out′
+    lists-inside = subst (λ (a : Call). InsideOf (a .left)) (sym e) list-inside
+
+pub closes-inside : (l : Listing) (out : List ℕ) (answer : Written) (out′ : List ℕ) → Writes (closing l out) answer out′ → Inside answer out′
+unfolding writing
+closes-inside l out answer out′ e =
+    let t = totals (l .frames) (l .refusals) in
+    subst InsideOf (sym e)
+    (by-cond InsideOf (leb 38 (length out))
+    (λ s. by-cond InsideOf (leb (length t) (length out)) (λ u. text-inside t (drop (length t) out)) (λ u. refused-inside 32 out))
+    (λ s. refused-inside 32 out))

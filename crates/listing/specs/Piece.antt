@@ -2,7 +2,7 @@
 use mathlib.Core.Path.{_≡_}
 use mathlib.Core.Bool.{cond}
 use mathlib.Core.List.{List, [], _∷_, _++_}
-use Prim.Native.Nat.{ℕ, suc, _+_, _-_, _%_}
+use Prim.Native.Nat.{ℕ, suc, _+_, _-_, _%_, _≤_}
 use lib.ListN.{length, take, drop}
 use lib.Dec.{leb, ltb}
 use Rattle.buffer.specs.declared.Written.{Written}
@@ -108,6 +108,10 @@ Lists l store piece out answer store′ out′ =
 -- what `close` leaves: 32 for a buffer below 38 bytes, or the two totals at its front
 abbrev pub closing : Listing → List ℕ → Left
 closing l out = writing 32 (leb 38 (length out)) (totals (l .frames) (l .refusals)) out
+
+-- what a writer says that it wrote stands within its buffer
+abbrev pub Inside : Written → List ℕ → Type 0
+Inside written out = (n : ℕ) → paper written ≡ wrote n → n ≤ length out
 
 -- ---- how a piece is listed run by run
 
