@@ -1,31 +1,26 @@
 -- For every stream, in every cutting and with whatever room: the texts of `list` and then that of `close` are the listing of the stream.
-use mathlib.Core.Path.{_≡_, refl, sym, ap, _∙_, subst}
-use mathlib.Core.Bool.{Bool, true, false, cond}
+use mathlib.Core.Path.{_≡_, refl, sym, ap, _∙_}
 use mathlib.Core.List.{List, [], _∷_, _++_, append-assoc, append-nil}
-use Prim.Native.Nat.{ℕ, zero, suc, _+_, _-_, _%_, _≤_, _<_}
-use native.Mathlib.Nat.{add-zero, add-assoc}
-use native.Mathlib.Numerals.{add-one, one-add}
+use Prim.Native.Nat.{ℕ, zero, suc, _+_, _-_, _≤_, _<_}
+use native.Mathlib.Numerals.{one-add}
 use native.Mathlib.Omega.{arith}
 use lib.ListN.{length, take, drop, length-take, take-append-drop}
-use lib.Seq.{length-take-le, take-nil, drop-nil, take-at, take-take, drop-append-le}
-use lib.Dec.{T, leb, ltb, leb→le, ltb→lt, nltb→le}
+use lib.Seq.{take-nil, take-at, drop-append-le}
+use lib.Dec.{leb, ltb}
 use borrow.Author.Tests.{le-leb, le-ltb}
-use Rattle.buffer.specs.Writing.{leaves, wrote, writing}
+use Rattle.buffer.specs.Writing.{writing}
 use Rattle.buffer.proofs.Lists.{by-cond}
 use Rattle.buffer.proofs.Writers.{writes-one}
 use Rattle.frame.specs.Judge.{Told, nothing, frame, refused}
-use Rattle.receiver.specs.declared.Receiver.{Receiver}
-use Rattle.receiver.specs.declared.Receiver.the-variants.{Waiting}
-use Rattle.receiver.specs.Step.{beyond, step}
-use Rattle.receiver.specs.Run.{countOf}
+use Rattle.receiver.specs.Step.{step}
 use Rattle.receiver.proofs.Rows.{within}
 use Rattle.receiver.proofs.Receive.{Fits}
 use Rattle.listing.specs.declared.Listing.{Listing}
 use Rattle.listing.specs.declared.Listed.{Listed}
 use Rattle.listing.specs.Block.{Block, frameBlock, refusalBlock, blockOf, lines, framesIn, refusalsIn, totals, printed}
 use Rattle.listing.specs.Stream.{blocksOf, listingOf}
-use Rattle.listing.specs.Piece.{fresh, left, framesThen, refusalsThen, onward, soiOf, Part, rests, behind, listing, Call, refuses, prints, list, Lists, closing}
-use Rattle.listing.specs.Calls.{Given, text, Called, calls}
+use Rattle.listing.specs.Piece.{fresh, left, framesThen, refusalsThen, onward, soiOf, Part, rests, listing, Call, prints, list, Lists, closing}
+use Rattle.listing.specs.Calls.{Given, text, calls}
 use Rattle.listing.proofs.Texts.{lines-join, totals-short}
 use Rattle.listing.proofs.Streams.{blocksHere, fits-step, counted-back}
 
@@ -44,12 +39,12 @@ pub frames-join : (s t : List Block) → framesIn (s ++ t) ≡ framesIn s + fram
 unfolding framesIn
 frames-join [] t = omega arith
 frames-join (frameBlock at h info ∷ s) t = omega (arith, frames-join s t)
-frames-join (refusalBlock at n ∷ s) t = frames-join s t
+frames-join (refusalBlock at n ∷ s) t = omega (arith, frames-join s t)
 
 pub refusals-join : (s t : List Block) → refusalsIn (s ++ t) ≡ refusalsIn s + refusalsIn t
 unfolding refusalsIn
 refusals-join [] t = omega arith
-refusals-join (frameBlock at h info ∷ s) t = refusals-join s t
+refusals-join (frameBlock at h info ∷ s) t = omega (arith, refusals-join s t)
 refusals-join (refusalBlock at n ∷ s) t = omega (arith, refusals-join s t)
 
 -- at most one more, and that is the block

@@ -1,6 +1,5 @@
 -- A number in decimal: how many digits it has, that they are its last ones, and that they say the number.
 use mathlib.Core.Path.{_≡_, refl, sym, ap, _∙_}
-use mathlib.Core.Bool.{cond}
 use mathlib.Core.List.{List, [], _∷_, _++_}
 use Prim.Native.Nat.{ℕ, zero, suc, _+_, _-_, _*_, _/_, _%_, _≤_, _<_}
 use native.Mathlib.Numerals.{add-one}
@@ -105,3 +104,7 @@ value-in (suc most) n h =
 pub value-decimal : (n : ℕ) → value (decimal n) ≡ n
 unfolding value decimal
 value-decimal n = value-in (suc n) n (omega arith)
+
+-- and no two numbers have the same digits
+pub decimal-one : (m n : ℕ) → decimal m ≡ decimal n → m ≡ n
+decimal-one m n e = sym (value-decimal m) ∙ ap value e ∙ value-decimal n

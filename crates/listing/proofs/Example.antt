@@ -1,7 +1,6 @@
 -- The paper's own example, computed.
 use mathlib.Core.Path.{_≡_, refl}
-use mathlib.Core.List.{List, [], _∷_, _++_}
-use Prim.Native.Nat.{ℕ}
+use mathlib.Core.List.{[], _∷_, _++_}
 use Rattle.buffer.specs.Text.{ascii}
 use Rattle.hex.specs.Hex.{isHex, digitOf, charOf, allHex, pairOf, byteOf, byteAt, wordAt}
 use Rattle.frame.specs.Frame.{CR, lchksum, sum, chksum}

@@ -2,15 +2,15 @@
 use mathlib.Core.Path.{_≡_, refl, sym, ap, _∙_, subst}
 use mathlib.Core.Bool.{Bool, true, false, cond}
 use mathlib.Core.List.{List, [], _∷_, _++_, append-assoc, append-nil}
-use Prim.Native.Nat.{ℕ, zero, suc, _+_, _-_, _*_, _≤_, _<_}
+use Prim.Native.Nat.{ℕ, suc, _+_, _-_, _≤_, _<_}
 use native.Mathlib.Nat.{add-zero, zero-add, add-assoc}
 use native.Mathlib.Numerals.{one-add}
 use native.Mathlib.Omega.{arith}
-use lib.ListN.{length, take, drop, length-append, length-take, length-drop, drop-of-length-le}
+use lib.ListN.{length, take, drop, length-append, length-take, length-drop}
 use lib.Seq.{length-take-le, drop-drop, take-all}
 use lib.Dec.{leb, ltb, ltb→lt, nltb→le}
 use borrow.Author.Tests.{le-leb, lt-leb, lt-ltb, le-ltb}
-use Rattle.buffer.specs.Put.{puts, Room, Put}
+use Rattle.buffer.specs.Put.{puts, Put}
 use Rattle.buffer.specs.declared.Written.{Written}
 use Rattle.buffer.specs.Writing.{wrote, refused as refusedBy, Left, leaves, writing, Writes}
 use Rattle.buffer.proofs.Lists.{never, by-cond}
@@ -23,7 +23,7 @@ use Rattle.receiver.specs.declared.Ran.{Ran}
 use Rattle.receiver.specs.Step.{Kind, soi, cr, other, kind, After, stepBy, beyond, step, paper}
 use Rattle.receiver.specs.Run.{isNothing, countOf, Run, later, stops, stepping, run, runOf}
 use Rattle.receiver.specs.Stream.{after}
-use Rattle.receiver.proofs.Rows.{step-within}
+use Rattle.receiver.proofs.Rows.{step-within, within}
 use Rattle.receiver.proofs.Running.{run-within-is}
 use Rattle.receiver.proofs.Receive.{Fits, after-fits}
 use Rattle.listing.specs.declared.Listing.{Listing}
@@ -360,6 +360,11 @@ listing-few (b ∷ bs) l store room =
     (λ t. omega (arith, listing-few bs (onward l 1 (a .next) (a .told)) (a .store) (room - length (lines block))))
     (λ t. omega arith)
 
+listing-some : (piece : List ℕ) (l : Listing) (store : List ℕ) (room : ℕ) → 4200 ≤ room → 0 < length piece → 0 < listing l store room piece .taken
+unfolding listing
+listing-some [] l store room h some = absurd (omega arith)
+listing-some (b ∷ bs) l store room h some = rw (le-leb 4200 room h) (omega arith)
+
 abbrev InsideOf : Left → Type 0
 InsideOf w = (n : ℕ) → w .outcome ≡ wrote n → n ≤ length (w .out)
 
@@ -380,6 +385,13 @@ module _ (l : Listing) (store piece out : List ℕ) where
       (λ t. by-cond (λ (a : Call). a .taken ≤ length piece) (ltb (length out) 4200) (λ t. omega arith)
       (λ t. by-cond (λ (a : Call). a .taken ≤ length piece) (beyond (l .receiver)) (λ t. omega arith)
       (λ t. omega (arith, listing-few (take (left l) piece) l store (length out), length-take (left l) piece))))
+
+  -- where a call is not refused, and a byte is there that may be read, it takes one at least: calls come to an end
+  pub list-some : 4110 ≤ length store → 4200 ≤ length out → countOf (l .receiver) ≤ 4110 → 0 < left l → 0 < length piece → 0 < list l store piece out .taken
+  unfolding list p
+  list-some h k f more some =
+      rw (le-ltb (length store) 4110 h, le-ltb (length out) 4200 k, within (l .receiver) f)
+      (listing-some (take (left l) piece) l store (length out) k (omega (arith, length-take (left l) piece)))
 
   list-inside : InsideOf (list l store piece out .left)
   unfolding list p

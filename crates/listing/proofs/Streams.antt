@@ -2,15 +2,15 @@
 use mathlib.Core.Path.{_≡_, refl, sym, ap, _∙_, subst}
 use mathlib.Core.Bool.{Bool, true, false, cond}
 use mathlib.Core.List.{List, [], _∷_, _++_}
-use Prim.Native.Nat.{ℕ, suc, _+_, _-_, _*_, _≤_, _<_}
+use Prim.Native.Nat.{ℕ, suc, _+_, _-_, _≤_}
 use native.Mathlib.Numerals.{add-one}
 use native.Mathlib.Omega.{arith}
-use lib.ListN.{length, take, drop, set, replicate, length-replicate}
+use lib.ListN.{length, take, set, replicate, length-replicate}
 use lib.Seq.{length-take-le, take-suc-set}
 use lib.Dec.{ltb}
 use borrow.Author.Tests.{ltb-true}
 use Rattle.frame.specs.declared.Header.{Header}
-use Rattle.frame.specs.Frame.{infoAt, Frames}
+use Rattle.frame.specs.Frame.{infoAt}
 use Rattle.frame.specs.Judge.{Told, nothing, frame, refused, judge}
 use Rattle.frame.proofs.Judging.{judge-accepts}
 use Rattle.frame.proofs.Steps.{length-chars}

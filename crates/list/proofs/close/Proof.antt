@@ -1,6 +1,5 @@
 -- The totals lie within the buffer.
 use Prim.Native.Nat.{_-_}
-use lib.ListN.{length}
 use borrow.Author.Needs.{needs}
 use Rattle.listing.proofs.Parts.{closes-inside}
 use Rattle.list.proofs.close.Statement.{statement}

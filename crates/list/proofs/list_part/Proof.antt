@@ -1,6 +1,5 @@
 -- No more bytes are taken than the piece has, and the text lies within the buffer.
 use Prim.Native.Nat.{_-_}
-use lib.ListN.{length}
 use borrow.Author.Needs.{needs}
 use Rattle.listing.proofs.Parts.{lists-few, lists-inside}
 use Rattle.list.proofs.list_part.Statement.{statement}

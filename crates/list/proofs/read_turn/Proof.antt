@@ -1,9 +1,9 @@
 -- What was read lies at the front of the buffer.
-use mathlib.Core.Path.{sym, ap}
+use mathlib.Core.Path.{sym}
 use Prim.Native.Nat.{_-_}
 use native.Mathlib.Omega.{arith}
 use lib.Seq.{length-take-le}
-use lib.ListN.{length, take, drop, length-append}
+use lib.ListN.{drop, length-append}
 use borrow.Author.Needs.{needs}
 use Rattle.list.proofs.read_turn.Statement.{statement}
 use Rattle.list.proofs.read_turn.Tie as tie

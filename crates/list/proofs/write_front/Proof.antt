@@ -3,7 +3,6 @@ use mathlib.Core.Path.{sym}
 use Prim.Native.Nat.{_-_}
 use native.Mathlib.Omega.{arith}
 use lib.Seq.{length-take-le}
-use lib.ListN.{length, take}
 use borrow.Author.Needs.{needs}
 use Rattle.list.proofs.write_front.Statement.{statement}
 use Rattle.list.proofs.write_front.Tie as tie

@@ -1,6 +1,5 @@
 -- The two cases of the test.
 use Prim.Native.Nat.{_-_}
-use lib.ListN.{take}
 use borrow.Author.Tests.{lt-ltb, le-ltb}
 use Rattle.listing.specs.Piece.{left}
 use Rattle.listing.proofs.least.Statement.{statement}

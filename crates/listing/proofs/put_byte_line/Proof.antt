@@ -1,10 +1,8 @@
 -- The key, what it says, and LF, one after the other.
 use mathlib.Core.Path.{_∙_}
 use Prim.Native.Nat.{_-_}
-use lib.ListN.{length}
 use borrow.Author.Needs.{needs}
 use Rattle.listing.proofs.Texts.{room-key, room-said, room-lf, line-put}
-use Rattle.listing.specs.Text.{line}
 use Rattle.hex.specs.Hex.{pairOf}
 use Rattle.listing.proofs.put_byte_line.Statement.{statement}
 use Rattle.listing.proofs.put_byte_line.Tie as tie

@@ -1,9 +1,7 @@
 -- As many digits as the number has.
 use Prim.Native.Nat.{_-_}
-use lib.ListN.{length}
 use borrow.Author.Needs.{needs}
 use Rattle.listing.proofs.Decimals.{decimal-digits}
-use Rattle.listing.specs.Text.{digit, decimal, digits}
 use Rattle.listing.proofs.put_decimal.Statement.{statement}
 use Rattle.listing.proofs.put_decimal.Tie as tie
 

@@ -3,11 +3,10 @@ use mathlib.Core.List.{List}
 use mathlib.Core.Path.{_≡_, refl, sym, ap, _∙_}
 use Prim.Native.Nat.{ℕ, _+_, _-_, _≤_}
 use native.Mathlib.Omega.{arith}
-use lib.ListN.{length, take, set, length-set}
+use lib.ListN.{length, length-set}
 use Rattle.listing.proofs.Texts.{digits-turn}
 use Rattle.listing.proofs.Decimals.{digits-length}
-use Rattle.listing.specs.Piece.{left}
-use Rattle.listing.specs.Text.{digit, digits}
+use Rattle.listing.specs.Text.{digits}
 use Rattle.buffer.proofs.Puts.{puts-nil}
 use Rattle.buffer.specs.Put.{puts}
 use Rattle.listing.proofs.put_digits.Statement.{statement}

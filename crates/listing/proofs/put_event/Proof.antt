@@ -1,13 +1,11 @@
 -- Each arm puts the lines of its event.
-use mathlib.Core.Path.{sym, ap, subst}
+use mathlib.Core.Path.{sym, subst}
 use Prim.Native.Nat.{_-_, _≤_}
 use native.Mathlib.Omega.{arith}
-use lib.ListN.{length}
 use borrow.Author.Needs.{needs}
 use Rattle.listing.proofs.Texts.{refusal-short, lines-one}
 use Rattle.listing.specs.Piece.{lenidOf}
 use Rattle.listing.specs.Block.{frameBlock, refusalBlock, lines, blockOf}
-use Rattle.listing.specs.Text.{line}
 use Rattle.receiver.specs.declared.Event.the-variants.{Frame}
 use Rattle.receiver.specs.declared.Event.{Event}
 use Rattle.receiver.specs.Step.{paper}

@@ -2,12 +2,10 @@
 use mathlib.Core.List.{_++_}
 use mathlib.Core.Path.{_∙_}
 use Prim.Native.Nat.{_+_, _-_}
-use lib.ListN.{length}
 use borrow.Author.Needs.{needs}
 use Rattle.listing.specs.Block.{frameLines}
 use Rattle.listing.specs.Text.{AT, VER, ADR, CID1, CID2, INFO, decimal, line}
 use Rattle.hex.specs.Hex.{pairOf}
-use Rattle.refusal.specs.Number.{number}
 use Rattle.buffer.proofs.Puts.{put-then, room-first, room-rest}
 use Rattle.listing.proofs.put_frame.Statement.{statement}
 use Rattle.listing.proofs.put_frame.Tie as tie

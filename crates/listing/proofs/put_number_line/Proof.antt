@@ -1,11 +1,9 @@
 -- The key, what it says, and LF, one after the other.
 use mathlib.Core.Path.{_∙_}
 use Prim.Native.Nat.{_-_}
-use lib.ListN.{length}
 use borrow.Author.Needs.{needs}
 use Rattle.listing.proofs.Texts.{room-key, room-said, room-lf, line-put}
-use Rattle.listing.specs.Text.{decimal, line}
-use Rattle.refusal.specs.Number.{number}
+use Rattle.listing.specs.Text.{decimal}
 use Rattle.listing.proofs.put_number_line.Statement.{statement}
 use Rattle.listing.proofs.put_number_line.Tie as tie
 

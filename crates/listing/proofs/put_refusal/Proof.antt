@@ -1,6 +1,5 @@
 -- Two lines, one after the other.
 use Prim.Native.Nat.{_-_}
-use lib.ListN.{length}
 use borrow.Author.Needs.{needs}
 use Rattle.listing.specs.Block.{refusalLines}
 use Rattle.listing.specs.Text.{AT, REFUSED, decimal, line}

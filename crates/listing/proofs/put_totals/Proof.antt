@@ -1,10 +1,8 @@
 -- Two lines, one after the other.
 use Prim.Native.Nat.{_-_}
-use lib.ListN.{length}
 use borrow.Author.Needs.{needs}
 use Rattle.listing.specs.Block.{totals}
 use Rattle.listing.specs.Text.{FRAMES, REFUSALS, decimal, line}
-use Rattle.refusal.specs.Number.{number}
 use Rattle.buffer.proofs.Puts.{put-then, room-first, room-rest}
 use Rattle.listing.proofs.put_totals.Statement.{statement}
 use Rattle.listing.proofs.put_totals.Tie as tie

@@ -1,11 +1,8 @@
 -- A run, and the block of its event.
 use Prim.Native.Nat.{_-_}
 use native.Mathlib.Omega.{arith}
-use lib.ListN.{length, set}
 use borrow.Author.Needs.{needs}
 use Rattle.listing.proofs.Parts.{ran-turned, turn-puts}
-use Rattle.listing.specs.Piece.{turn}
-use Rattle.buffer.specs.Put.{puts}
 use Rattle.listing.proofs.Listing.advance.Statement.{statement}
 use Rattle.listing.proofs.Listing.advance.Tie as tie
 

@@ -1,7 +1,7 @@
 -- A buffer that is too short, or the totals at its front.
 use Prim.Native.Nat.{_-_}
 use native.Mathlib.Omega.{arith}
-use lib.ListN.{length, take}
+use lib.ListN.{length}
 use borrow.Author.Tests.{le-leb, lt-leb}
 use borrow.Author.Needs.{needs}
 use Rattle.listing.proofs.Texts.{totals-short}

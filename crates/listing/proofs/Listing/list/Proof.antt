@@ -4,13 +4,12 @@ use mathlib.Core.Path.{sym, ap, _∙_}
 use Prim.Native.Nat.{ℕ, _-_}
 use native.Mathlib.Omega.{arith}
 use lib.Seq.{length-take-le}
-use lib.ListN.{length, take}
+use lib.ListN.{length}
 use lib.Dec.{ltb}
 use borrow.Author.Needs.{needs}
 use Rattle.listing.proofs.Parts.{least-le, list-short-store, list-short-out, list-beyond, list-puts}
-use Rattle.listing.specs.Piece.{turn, left}
+use Rattle.listing.specs.Piece.{left}
 use Rattle.receiver.proofs.Rows.{not-beyond}
-use Rattle.buffer.specs.Put.{puts}
 use Rattle.listing.proofs.Listing.list.Statement.{statement}
 use Rattle.listing.proofs.Listing.list.Tie as tie
 

@@ -3,11 +3,10 @@ use mathlib.Core.List.{List}
 use mathlib.Core.Path.{_≡_, refl, ap, _∙_, subst}
 use Prim.Native.Nat.{ℕ, _-_}
 use native.Mathlib.Omega.{arith}
-use lib.ListN.{length, take, drop, length-drop}
+use lib.ListN.{length, drop, length-drop}
 use Rattle.listing.proofs.Parts.{lent, Sofar, sofar-none, turn-few, turn-some, sofar-turn, sofar-full, sofar-end}
 use Rattle.listing.specs.Piece.{turn, Puts, left}
 use Rattle.receiver.specs.Run.{stepping}
-use Rattle.buffer.specs.Put.{Put}
 use Rattle.listing.proofs.Listing.list_within.Statement.{statement}
 use Rattle.listing.proofs.Listing.list_within.Tie as tie
 

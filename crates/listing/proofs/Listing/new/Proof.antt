@@ -1,6 +1,5 @@
 -- The receiver is fresh, and nothing is counted yet.
 use Prim.Native.Nat.{_-_}
-use lib.ListN.{set}
 use borrow.Author.Needs.{needs}
 use Rattle.listing.proofs.Listing.new.Statement.{statement}
 use Rattle.listing.proofs.Listing.new.Tie as tie
