@@ -69,11 +69,82 @@ module _ {out : List ℕ} {at : ℕ} (key said : List ℕ) (room : Room out at (
       unfolding line
       line-put s = put-then (room-first (key ++ said) (LF ∷ []) room) (put-then room-key p q) s
 
+-- ---- a frame's six lines
+
+module _ {out : List ℕ} {at : ℕ} (soi : ℕ) (h : Header) (info : List ℕ) (room : Room out at (frameLines soi h info)) where
+  abbrev one : List ℕ
+  one = line AT (decimal soi)
+
+  abbrev two : List ℕ
+  two = one ++ line VER (pairOf (h .ver))
+
+  abbrev three : List ℕ
+  three = two ++ line ADR (pairOf (h .adr))
+
+  abbrev four : List ℕ
+  four = three ++ line CID1 (pairOf (h .cid1))
+
+  abbrev five : List ℕ
+  five = four ++ line CID2 (pairOf (h .cid2))
+
+  room-five : Room out at five
+  unfolding frameLines
+  room-five = room-first five (line INFO info) room
+
+  room-four : Room out at four
+  room-four = room-first four (line CID2 (pairOf (h .cid2))) room-five
+
+  room-three : Room out at three
+  room-three = room-first three (line CID1 (pairOf (h .cid1))) room-four
+
+  room-two : Room out at two
+  room-two = room-first two (line ADR (pairOf (h .adr))) room-three
+
+  pub room-at : Room out at (line AT (decimal soi))
+  room-at = room-first one (line VER (pairOf (h .ver))) room-two
+
+  module _ {m : List ℕ} {a : ℕ} (p : Put out at (line AT (decimal soi)) m a) where
+    pub room-ver : length m ≡ length out → Room m a (line VER (pairOf (h .ver)))
+    room-ver kept = room-rest one (line VER (pairOf (h .ver))) room-two p kept
+
+    module _ {m′ : List ℕ} {a′ : ℕ} (q : Put m a (line VER (pairOf (h .ver))) m′ a′) where
+      put-two : Put out at two m′ a′
+      put-two = put-then room-at p q
+
+      pub room-adr : length m′ ≡ length out → Room m′ a′ (line ADR (pairOf (h .adr)))
+      room-adr kept = room-rest two (line ADR (pairOf (h .adr))) room-three put-two kept
+
+      module _ {m″ : List ℕ} {a″ : ℕ} (r : Put m′ a′ (line ADR (pairOf (h .adr))) m″ a″) where
+        put-three : Put out at three m″ a″
+        put-three = put-then room-two put-two r
+
+        pub room-cid1 : length m″ ≡ length out → Room m″ a″ (line CID1 (pairOf (h .cid1)))
+        room-cid1 kept = room-rest three (line CID1 (pairOf (h .cid1))) room-four put-three kept
+
+        module _ {n : List ℕ} {b : ℕ} (s : Put m″ a″ (line CID1 (pairOf (h .cid1))) n b) where
+          put-four : Put out at four n b
+          put-four = put-then room-three put-three s
+
+          pub room-cid2 : length n ≡ length out → Room n b (line CID2 (pairOf (h .cid2)))
+          room-cid2 kept = room-rest four (line CID2 (pairOf (h .cid2))) room-five put-four kept
+
+          module _ {n′ : List ℕ} {b′ : ℕ} (t : Put n b (line CID2 (pairOf (h .cid2))) n′ b′) where
+            put-five : Put out at five n′ b′
+            put-five = put-then room-four put-four t
+
+            pub room-info : length n′ ≡ length out → Room n′ b′ (line INFO info)
+            unfolding frameLines
+            room-info kept = room-rest five (line INFO info) room put-five kept
+
+            pub frame-put : {fin : List ℕ} {end : ℕ} → Put n′ b′ (line INFO info) fin end → Put out at (frameLines soi h info) fin end
+            unfolding frameLines
+            frame-put u = put-then room-five put-five u
+
+-- ---- how long the lines are
+
 length-line : (key said : List ℕ) → length (line key said) ≡ length key + length said + 1
 unfolding line
 length-line key said = length-append (key ++ said) (LF ∷ []) ∙ ap (λ (k : ℕ). k + 1) (length-append key said)
-
--- ---- how long the lines are
 
 pub frame-short : (at : ℕ) (h : Header) (info : List ℕ) → at < 4294967296 → length info ≤ 4094 → length (frameLines at h info) ≤ 4200
 unfolding frameLines
