@@ -126,7 +126,7 @@ one-soi s i i′ j h h′ n n′ f f′ =
     go (inr (z, e)) = absurd (not-hex c z SOI c′ (hexy-frame h n c (f .frame)) soi-odd e)
 
 -- what stands at the front of a list stands there in the list
-info-front : (s c : List ℕ) (n : ℕ) → take (length c) s ≡ c → 12 + n ≤ length c → infoAt n s ≡ infoAt n c
+pub info-front : (s c : List ℕ) (n : ℕ) → take (length c) s ≡ c → 12 + n ≤ length c → infoAt n s ≡ infoAt n c
 info-front s c n e h =
     let d = drop (length c) s in
     let whole : s ≡ c ++ d = sym (take-append-drop (length c) s) ∙ ap (λ (x : List ℕ). x ++ d) e in

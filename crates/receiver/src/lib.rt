@@ -180,7 +180,8 @@ impl Receiver {
         }
     }
 
-    fn is_beyond(self) -> bool
+    // Whether the count is above 4,110.
+    pub fn is_beyond(self) -> bool
         ensures { λ r. ⌜ r ≡ beyond self ⌝ }
     {
         match self {

@@ -1,0 +1,16 @@
+-- The paper's own example, computed.
+use mathlib.Core.Path.{_≡_, refl}
+use mathlib.Core.List.{[], _∷_, _++_}
+use Rattle.buffer.specs.Text.{ascii}
+use Rattle.hex.specs.Hex.{isHex, digitOf, charOf, allHex, pairOf, byteOf, byteAt, wordAt}
+use Rattle.frame.specs.Frame.{CR, lchksum, sum, chksum}
+use Rattle.frame.specs.Judge.{need, header, lenid, judge}
+use Rattle.receiver.specs.Step.{kind, stepBy, step}
+use Rattle.listing.specs.Text.{decimalIn, decimal, line}
+use Rattle.listing.specs.Block.{frameLines, refusalLines, lines, framesIn, refusalsIn, totals, printed}
+use Rattle.listing.specs.Stream.{blocksFrom, blocksOf, listingOf}
+
+pub example : listingOf (ascii "~2002464F0000FD98" ++ CR ∷ ascii "~12" ++ CR ∷ [])
+    ≡ ascii "at=0\nver=20\nadr=02\ncid1=46\ncid2=4F\ninfo=\nat=18\nrefused=3\nframes=1\nrefusals=1\n"
+unfolding listingOf blocksOf blocksFrom printed lines frameLines refusalLines totals framesIn refusalsIn line decimal decimalIn pairOf charOf step stepBy kind judge need header lenid chksum sum lchksum allHex isHex byteAt wordAt byteOf digitOf
+example = refl

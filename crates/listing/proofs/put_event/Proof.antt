@@ -1,0 +1,78 @@
+-- Each arm puts the lines of its event.
+use mathlib.Core.Path.{sym, subst}
+use Prim.Native.Nat.{_-_, _≤_}
+use native.Mathlib.Omega.{arith}
+use borrow.Author.Needs.{needs}
+use Rattle.listing.proofs.Texts.{refusal-short, lines-one}
+use Rattle.listing.specs.Piece.{lenidOf}
+use Rattle.listing.specs.Block.{frameBlock, refusalBlock, lines, blockOf}
+use Rattle.receiver.specs.declared.Event.the-variants.{Frame}
+use Rattle.receiver.specs.declared.Event.{Event}
+use Rattle.receiver.specs.Step.{paper}
+use Rattle.frame.specs.Frame.{infoAt}
+use Rattle.refusal.specs.Number.{number}
+use Rattle.buffer.proofs.Puts.{put-none}
+use Rattle.buffer.specs.Put.{Put}
+use Rattle.listing.proofs.put_event.Statement.{statement}
+use Rattle.listing.proofs.put_event.Tie as tie
+
+enum-told : tie.Need-enum-told
+enum-told c = search needs
+
+enum-known-event : tie.Need-enum-known-event
+enum-known-event c = search needs
+
+put-stored-requires : tie.Need-put-stored-requires
+put-stored-requires c κs =
+    let start = c .before .before .before .before .before .before in
+    let h : lenidOf (paper (Frame (c .before .before .event .given .0 .0) (c .before .before .event .given .0 .1 .0))) ≤ 4094 = rw (c .before .before .event .given .1) at (start .pre .2) in
+    (start .pre .0, start .pre .1, h)
+
+enum-known-event-2 : tie.Need-enum-known-event-2
+enum-known-event-2 c = search needs
+
+number-requires : tie.Need-number-requires
+number-requires c κs = search needs
+
+put-refusal-requires : tie.Need-put-refusal-requires
+put-refusal-requires c κs =
+    let start = c .before .before .before .before .before .before .before in
+    record { fits = omega (arith, start .pre .0, refusal-short (start .args .soi) (c .number .result) (search needs) (search needs)) }
+
+returns : tie.Need-returns
+unfolding lines
+returns c =
+    let a = c .before .before .before .before .args in
+    subst (λ (e : Event). Put (a .out .now) (a .at) (lines (blockOf (a .soi) (paper e) (a .store .now))) (a .out .now) (a .at)) (sym (c .enum-told .given .1)) (put-none (a .out .now) (a .at))
+
+same-length : tie.Need-same-length
+same-length c = search needs
+
+returns-2 : tie.Need-returns-2
+returns-2 c =
+    let a = c .before .before .before .before .before .before .before .before .before .args in
+    rw (c .before .before .before .before .before .event .given .1, lines-one (frameBlock (a .soi) (c .before .before .before .before .before .event .given .0 .0) (infoAt (c .before .before .before .before .before .event .given .0 .1 .0) (a .store .now)))) (c .before .before .put-stored .ensures)
+
+same-length-2 : tie.Need-same-length-2
+same-length-2 c = search needs
+
+returns-3 : tie.Need-returns-3
+returns-3 c =
+    let a = c .before .before .before .before .before .before .before .before .before .before .args in
+    rw (c .before .before .before .before .before .before .event2 .given .1, lines-one (refusalBlock (a .soi) (number (c .before .before .before .before .before .before .event2 .given .0 .0))), ← c .before .before .before .number .ensures) (c .before .before .put-refusal .ensures)
+
+pub put-event-spec : {M : Type 1} → statement M
+put-event-spec =
+    tie.close
+    (tie.spec
+    enum-told
+    enum-known-event
+    put-stored-requires
+    enum-known-event-2
+    number-requires
+    put-refusal-requires
+    returns
+    same-length
+    returns-2
+    same-length-2
+    returns-3)

@@ -1,0 +1,42 @@
+-- Each arm is one case of the definition.
+use mathlib.Core.Path.{sym, ap, _∙_}
+use Prim.Native.Nat.{_-_}
+use borrow.Author.Needs.{needs}
+use Rattle.listing.specs.Piece.{refusalsThen}
+use Rattle.receiver.specs.declared.Event.{Event}
+use Rattle.receiver.specs.Step.{paper}
+use Rattle.listing.proofs.refusals_then.Statement.{statement}
+use Rattle.listing.proofs.refusals_then.Tie as tie
+
+enum-told : tie.Need-enum-told
+enum-told c = search needs
+
+enum-told-2 : tie.Need-enum-told-2
+enum-told-2 c = search needs
+
+enum-told-3 : tie.Need-enum-told-3
+enum-told-3 c = search needs
+
+wrapping-add-u32-requires : tie.Need-wrapping-add-u32-requires
+wrapping-add-u32-requires c κs = search needs
+
+returns : tie.Need-returns
+returns c = search needs
+
+returns-2 : tie.Need-returns-2
+returns-2 c = search needs
+
+returns-3 : tie.Need-returns-3
+returns-3 c = c .wrapping-add-u32 .ensures ∙ ap (λ (e : Event). refusalsThen (c .before .before .before .args .refusals) (paper e)) (sym (c .before .enum-told3 .given .1))
+
+pub refusals-then-spec : {M : Type 1} → statement M
+refusals-then-spec =
+    tie.close
+    (tie.spec
+    enum-told
+    enum-told-2
+    enum-told-3
+    wrapping-add-u32-requires
+    returns
+    returns-2
+    returns-3)
