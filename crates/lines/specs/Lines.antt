@@ -4,11 +4,15 @@ use mathlib.Core.List.{List, [], _∷_, _++_}
 use Prim.Native.Nat.{ℕ, _*_}
 use Prim.Native.String.{String}
 use lib.ListN.{length, drop}
+use lib.IntN.{ℤ, pos, negsuc}
+use mir.Syntax.{w16}
+use mir.Val.{toZ}
 use Rattle.buffer.specs.Text.{ascii}
 use Rattle.hex.specs.Hex.{hexes, word}
 use Rattle.frame.specs.declared.Header.{Header}
 use Rattle.frame.specs.Frame.{CR, lengthOf, chksum, encode}
 use Rattle.frame.specs.Judge.{frame, judge}
+use Rattle.record.specs.Meanings.{tenthsCelsiusOf, milliampsOf}
 
 pub data Line : Type 0 where
   -- a LENID and its LENGTH
@@ -17,6 +21,10 @@ pub data Line : Type 0 where
   check : String → String → Line
   -- a frame from its tilde on, and its VER, ADR, CID1, CID2 and INFO: accepted, and written so
   sent : String → ℕ → ℕ → ℕ → ℕ → List ℕ → Line
+  -- the word of a temperature, and tenths of a degree Celsius
+  temperature : ℕ → ℤ → Line
+  -- the word of a current, and milliamps
+  current : ℕ → ℤ → Line
 
 abbrev pub headerOf : ℕ → ℕ → ℕ → ℕ → Header
 headerOf ver adr cid1 cid2 = record { ver = ver; adr = adr; cid1 = cid1; cid2 = cid2 }
@@ -27,6 +35,8 @@ Holds (check characters text) = hexes (word (chksum (ascii characters))) ≡ asc
 Holds (sent text ver adr cid1 cid2 info) =
     (judge (drop 1 (ascii text)) ≡ frame (headerOf ver adr cid1 cid2) (2 * length info))
     × (encode (headerOf ver adr cid1 cid2) info ≡ ascii text ++ CR ∷ [])
+Holds (temperature w tenths) = tenthsCelsiusOf (toZ w16 w) ≡ tenths
+Holds (current w milliamps) = milliampsOf (toZ w16 w) ≡ milliamps
 
 abbrev pub AllHold : List Line → Type 0
 AllHold [] = Unit {0}
@@ -44,4 +54,8 @@ lines =
     ∷ sent "~210246000000FDB1" 0x21 0x02 0x46 0x00 []
     ∷ sent "~21024642E00202FD32" 0x21 0x02 0x46 0x42 (0x02 ∷ [])
     ∷ sent "~210246040000FDAD" 0x21 0x02 0x46 0x04 []
+    ∷ temperature 0x0BAA (pos 255)
+    ∷ temperature 0x0A2F (negsuc 123)
+    ∷ current 0xFFD8 (negsuc 3999)
+    ∷ current 0x8000 (negsuc 3276799)
     ∷ []

@@ -1,6 +1,7 @@
 // Runs the paper's lines to hold against that are not proved as one statement (specs/Lines.antt has those), and prints what each gives.
 
 use frame::Header;
+use infos::Taken;
 use libc::STDOUT_FILENO;
 use receiver::Event;
 use receiver::Receiver;
@@ -46,6 +47,67 @@ fn hear(name: &[u8], stream: &[u8]) {
     io::write_all(STDOUT_FILENO, b"\n");
 }
 
+fn print_number(key: &[u8], n: u64) {
+    io::write_all(STDOUT_FILENO, key);
+    io::print_decimal(STDOUT_FILENO, n);
+}
+
+fn print_taken(name: &[u8], taken: Taken) {
+    io::write_all(STDOUT_FILENO, name);
+    match taken {
+        Taken::Taken(flag) => print_byte(b" flag ", flag),
+        Taken::Refused(refusal) => print_number(b" refused ", refusal.number() as u64),
+    }
+}
+
+// Prints a list of words, as many as the count says.
+fn print_words(key: &[u8], count: u8, list: &[i16]) {
+    print_number(key, count as u64);
+    for i in 0..list.len() {
+        if i < count as usize {
+            print_number(b" ", record::word_of(list[i]) as u64);
+        }
+    }
+}
+
+// Reads the INFO of a 42H reply to ADR 02 and prints its fields.
+fn analog(name: &[u8], info: &[u8]) {
+    let found = infos::take_analog(info, 2);
+    let taken = found.taken;
+    let analog = found.analog;
+    print_taken(name, taken);
+    let cells = analog.cells;
+    let temperatures = analog.temperatures;
+    print_words(b" cells ", analog.cell_count, &cells);
+    print_words(b" temperatures ", analog.temperature_count, &temperatures);
+    print_number(b" current ", record::word_of(analog.current) as u64);
+    print_number(b" voltage ", analog.voltage as u64);
+    print_number(b" remaining ", analog.remaining as u64);
+    print_number(b" total ", analog.total as u64);
+    print_number(b" cycles ", analog.cycles as u64);
+    io::write_all(STDOUT_FILENO, b"\n");
+}
+
+// Reads the INFO of a 92H reply to ADR 02 and prints its fields.
+fn limits(name: &[u8], info: &[u8]) {
+    let found = infos::take_limits(info, 2);
+    let taken = found.taken;
+    let limits = found.limits;
+    print_taken(name, taken);
+    print_number(b" charge voltage ", limits.charge_voltage as u64);
+    print_number(b" discharge voltage ", limits.discharge_voltage as u64);
+    print_number(
+        b" charge current ",
+        record::word_of(limits.charge_current) as u64,
+    );
+    print_number(
+        b" discharge current ",
+        record::word_of(limits.discharge_current) as u64,
+    );
+    print_byte(b" status ", limits.status);
+    io::write_all(STDOUT_FILENO, b"\n");
+}
+
 fn main() {
     hear(b"check FD32:", b"~21024642E00202FD32\r");
     hear(b"check FD33:", b"~21024642E00202FD33\r");
@@ -62,4 +124,34 @@ fn main() {
     long[4111] = 48;
     long[4112] = 13;
     hear(b"4111 characters and CR:", &long);
+    limits(b"92H:", b"02D002B79800FA00FAC0");
+    analog(b"total 65,000:", b"0002010D45010BAA0000C350FDE802FDE80007");
+    analog(
+        b"total 65,001, items 2:",
+        b"0002010D45010BAA0000C350FDE802FDE90007",
+    );
+    analog(
+        b"total 65,001:",
+        b"0002010D45010BAA0000C350FFFF04FFFF000700FDE800FDE9",
+    );
+    analog(
+        b"items 4 without FFFF:",
+        b"0002010D45010BAA0000C350FDE804FFFF000700FDE800FDE9",
+    );
+    hear(
+        b"source 000's reply, as printed:",
+        b"~20024600F07A11020F0D450D440D450D44A0D4A0D4B0D4A0D4A0D4A050BC30BC30BC30BCD0BCD000C725FFF04FFF000200CA58012110E1A2\r",
+    );
+    hear(
+        b"restored, with the printed check:",
+        b"~20024600F07A11020F0D450D440D450D440D450D440D3E0D450D4A0D4A0D4B0D4A0D4A0D4A0D4A050BC30BC30BC30BCD0BCD0000C725FFFF04FFFF000200CA58012110E1A2\r",
+    );
+    hear(
+        b"restored, with the rule's check:",
+        b"~20024600F07A11020F0D450D440D450D440D450D440D3E0D450D4A0D4A0D4B0D4A0D4A0D4A0D4A050BC30BC30BC30BCD0BCD0000C725FFFF04FFFF000200CA58012110E27A\r",
+    );
+    analog(
+        b"its record:",
+        b"11020F0D450D440D450D440D450D440D3E0D450D4A0D4A0D4B0D4A0D4A0D4A0D4A050BC30BC30BC30BCD0BCD0000C725FFFF04FFFF000200CA58012110",
+    );
 }
