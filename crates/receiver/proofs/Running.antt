@@ -16,7 +16,7 @@ use Rattle.frame.specs.Frame.{SOI, CR}
 use Rattle.frame.specs.Judge.{Told, nothing, refused}
 use Rattle.receiver.specs.declared.Receiver.{Receiver}
 use Rattle.receiver.specs.declared.Receiver.the-variants.{Waiting, Open}
-use Rattle.receiver.specs.Scan.{either, any, before}
+use Rattle.receiver.specs.Scan.{isSoi, isEnd, any, before}
 use Rattle.receiver.specs.Step.{Kind, soi, cr, other, kind, After, gives, stepBy, beyond, step}
 use Rattle.receiver.specs.Run.{isNothing, countOf, Run, ends, stops, later, stepping, run, moved, Passed}
 use Rattle.receiver.proofs.Scans.{or-first, or-second, before-le, before-free}
@@ -56,31 +56,28 @@ unfolding stepping
 step-on r r′ store store′ b bs e =
     ap (λ (a : After). cond (isNothing (a .told)) (later 1 (stepping (a .next) (a .store) bs)) (stops (countOf r) a)) (sym e)
 
-not-soi : (b : ℕ) → either SOI SOI b ≡ false → b ≡ SOI → ⊥
-not-soi b e = eqb-false b SOI (or-first (eqb b SOI) (eqb b SOI) e)
-
 -- while waiting, all up to the next SOI
-wait-case : (store : List ℕ) (room : 4110 ≤ length store) (b : ℕ) (bs : List ℕ) (t : Bool) → either SOI SOI b ≡ t
-    → stepping Waiting store bs ≡ later (before (either SOI SOI) bs) (stepping Waiting store (drop (before (either SOI SOI) bs) bs))
-    → (n : ℕ) → n ≡ cond t 0 (suc (before (either SOI SOI) bs))
+wait-case : (store : List ℕ) (room : 4110 ≤ length store) (b : ℕ) (bs : List ℕ) (t : Bool) → isSoi b ≡ t
+    → stepping Waiting store bs ≡ later (before isSoi bs) (stepping Waiting store (drop (before isSoi bs) bs))
+    → (n : ℕ) → n ≡ cond t 0 (suc (before isSoi bs))
     → stepping Waiting store (b ∷ bs) ≡ later n (stepping Waiting store (drop n (b ∷ bs)))
 wait-case store room b bs true e ih n q = rw q (sym (later-zero (stepping Waiting store (b ∷ bs))))
 wait-case store room b bs false e ih n q =
-    let k : ℕ = before (either SOI SOI) bs in
+    let k : ℕ = before isSoi bs in
     rw q
-    (step-on Waiting Waiting store store b bs (row-idle store b room (not-soi b e))
+    (step-on Waiting Waiting store store b bs (row-idle store b room (eqb-false b SOI e))
     ∙ ap (later 1) ih
     ∙ later-later 1 k (stepping Waiting store (drop k bs))
     ∙ ap (λ (m : ℕ). later m (stepping Waiting store (drop k bs))) (one-add k))
 
 wait-run : (store : List ℕ) (room : 4110 ≤ length store) (piece : List ℕ)
-    → stepping Waiting store piece ≡ later (before (either SOI SOI) piece) (stepping Waiting store (drop (before (either SOI SOI) piece) piece))
+    → stepping Waiting store piece ≡ later (before isSoi piece) (stepping Waiting store (drop (before isSoi piece) piece))
 unfolding before stepping
 wait-run store room [] = refl
-wait-run store room (b ∷ bs) = wait-case store room b bs (either SOI SOI b) refl (wait-run store room bs) (before (either SOI SOI) (b ∷ bs)) refl
+wait-run store room (b ∷ bs) = wait-case store room b bs (isSoi b) refl (wait-run store room bs) (before isSoi (b ∷ bs)) refl
 
 -- while open, bytes that are neither SOI nor CR
-open-run : (n : ℕ) (store p q : List ℕ) → 4110 ≤ length store → any (either SOI CR) p ≡ false → n + length p ≤ 4110
+open-run : (n : ℕ) (store p q : List ℕ) → 4110 ≤ length store → any isEnd p ≡ false → n + length p ≤ 4110
     → stepping (Open n) store (p ++ q) ≡ later (length p) (stepping (Open (n + length p)) (sets store n p) q)
 unfolding any
 open-run n store [] q room none h =
@@ -88,26 +85,26 @@ open-run n store [] q room none h =
 open-run n store (b ∷ p) q room none h =
     let rest : Run = stepping (Open (suc n + length p)) (sets (set store n b) (suc n) p) q in
     let far : suc n + length p ≡ n + suc (length p) = omega arith in
-    let plain = or-first (either SOI CR b) (any (either SOI CR) p) none in
+    let plain = or-first (isEnd b) (any isEnd p) none in
     step-on (Open n) (Open (n + 1)) store (set store n b) b (p ++ q)
     (row-more store b room n (omega arith) (eqb-false b SOI (or-first (eqb b SOI) (eqb b CR) plain)) (eqb-false b CR (or-second (eqb b SOI) (eqb b CR) plain)) (λ e. omega arith))
     ∙ ap (λ (m : ℕ). later 1 (stepping (Open m) (set store n b) (p ++ q))) (add-one n)
-    ∙ ap (later 1) (open-run (suc n) (set store n b) p q (omega (arith, length-set store n b)) (or-second (either SOI CR b) (any (either SOI CR) p) none) (omega arith))
+    ∙ ap (later 1) (open-run (suc n) (set store n b) p q (omega (arith, length-set store n b)) (or-second (isEnd b) (any isEnd p) none) (omega arith))
     ∙ later-later 1 (length p) rest
     ∙ ap (λ (m : ℕ). later m rest) (one-add (length p))
     ∙ ap (λ (m : ℕ). later (suc (length p)) (stepping (Open m) (sets (set store n b) (suc n) p) q)) far
 
 -- ---- what the functions that pass bytes ensure
 
-pub passed-wait : (store piece : List ℕ) (k : ℕ) → 4110 ≤ length store → k ≡ before (either SOI SOI) piece → Passed Waiting store piece k store
+pub passed-wait : (store piece : List ℕ) (k : ℕ) → 4110 ≤ length store → k ≡ before isSoi piece → Passed Waiting store piece k store
 passed-wait store piece k room e =
     record {
-      few = omega (arith, before-le (either SOI SOI) piece);
+      few = omega (arith, before-le isSoi piece);
       count = omega arith;
       same = wait-run store room piece ∙ ap (λ (m : ℕ). later m (stepping Waiting store (drop m piece))) (sym e);
     }
 
-pub passed-open : (n : ℕ) (store piece store′ : List ℕ) (k next : ℕ) → 4110 ≤ length store → any (either SOI CR) (take k piece) ≡ false → k ≤ length piece → n + k ≤ 4110
+pub passed-open : (n : ℕ) (store piece store′ : List ℕ) (k next : ℕ) → 4110 ≤ length store → any isEnd (take k piece) ≡ false → k ≤ length piece → n + k ≤ 4110
     → Put store n (take k piece) store′ next → Passed (Open n) store piece k store′
 unfolding puts
 passed-open n store piece store′ k next room none h fits p =

@@ -1,11 +1,15 @@
--- Looking for one of two bytes in a list.
+-- Looking for SOI, and for SOI or CR, in a list.
 use mathlib.Core.Bool.{Bool, true, false, cond, _||_}
 use mathlib.Core.List.{List, [], _∷_}
 use Prim.Native.Nat.{ℕ, suc}
 use lib.Dec.{eqb}
+use Rattle.frame.specs.Frame.{SOI, CR}
 
-abbrev pub either : ℕ → ℕ → ℕ → Bool
-either a b x = eqb x a || eqb x b
+abbrev pub isSoi : ℕ → Bool
+isSoi x = eqb x SOI
+
+abbrev pub isEnd : ℕ → Bool
+isEnd x = eqb x SOI || eqb x CR
 
 -- whether some element meets a test
 unfoldable pub any : (ℕ → Bool) → List ℕ → Bool

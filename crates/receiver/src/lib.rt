@@ -4,7 +4,7 @@ ghost use mathlib.Core.Path.{_≡_};
 ghost use Prim.Native.Nat.{_≤_};
 ghost use lib.ListN.{length};
 ghost use Rattle.frame.specs.Judge.{paper as paperJudged};
-ghost use Rattle.receiver.specs.Scan.{either, any, before};
+ghost use Rattle.receiver.specs.Scan.{isSoi, isEnd, any, before};
 ghost use Rattle.receiver.specs.Step.{paper, beyond, Steps};
 ghost use Rattle.receiver.specs.Run.{isNothing, countOf, moved, Passed, Runs};
 use frame::CR;
@@ -43,35 +43,70 @@ pub struct Ran {
 // The bytes of a block that is scanned at once.
 const BLOCK: usize = 32;
 
-// Whether a or b is among the bytes. No early exit, so that the loop is compiled to vector code.
-fn has(s: &[u8], a: u8, b: u8) -> bool
-    ensures { λ r. ⌜ r ≡ any (either a b) (now (s .entry)) ⌝ }
+// Whether a SOI is among the bytes. No early exit, so that the loop is compiled to vector code.
+fn has_soi(s: &[u8]) -> bool
+    ensures { λ r. ⌜ r ≡ any isSoi (now (s .entry)) ⌝ }
 {
     let mut hit = false;
     let mut i: usize = 0;
     while i < s.len() {
-        let x = s[i];
-        hit = hit | ((x == a) | (x == b));
+        hit = hit | (s[i] == SOI);
         i += 1;
     }
     hit
 }
 
-// The place of the first a or b, or the length: block by block, then byte by byte in the block that has it.
-fn find(s: &[u8], a: u8, b: u8) -> usize
-    ensures { λ r. ⌜ r ≡ before (either a b) (now (s .entry)) ⌝ }
+// Whether a SOI or a CR is.
+fn has_end(s: &[u8]) -> bool
+    ensures { λ r. ⌜ r ≡ any isEnd (now (s .entry)) ⌝ }
+{
+    let mut hit = false;
+    let mut i: usize = 0;
+    while i < s.len() {
+        let x = s[i];
+        hit = hit | ((x == SOI) | (x == CR));
+        i += 1;
+    }
+    hit
+}
+
+// The place of the first SOI, or the length: block by block, then byte by byte in the block that has it. It and `find_end` are two
+// functions, and not one with two bytes to look for: with the bytes written out both are compiled to a compare of vectors.
+fn find_soi(s: &[u8]) -> usize
+    ensures { λ r. ⌜ r ≡ before isSoi (now (s .entry)) ⌝ }
 {
     let mut i: usize = 0;
     while BLOCK <= s.len() - i {
         let e = i + BLOCK;
-        if has(&s[i..e], a, b) {
+        if has_soi(&s[i..e]) {
+            break;
+        }
+        i += BLOCK;
+    }
+    while i < s.len() {
+        if s[i] == SOI {
+            return i;
+        }
+        i += 1;
+    }
+    i
+}
+
+// The place of the first SOI or CR, or the length.
+fn find_end(s: &[u8]) -> usize
+    ensures { λ r. ⌜ r ≡ before isEnd (now (s .entry)) ⌝ }
+{
+    let mut i: usize = 0;
+    while BLOCK <= s.len() - i {
+        let e = i + BLOCK;
+        if has_end(&s[i..e]) {
             break;
         }
         i += BLOCK;
     }
     while i < s.len() {
         let x = s[i];
-        if (x == a) | (x == b) {
+        if (x == SOI) | (x == CR) {
             return i;
         }
         i += 1;
@@ -158,7 +193,7 @@ fn store_plain(store: &mut [u8], count: usize, piece: &[u8]) -> usize
     ensures { λ r. ⌜ Passed (Receiver.Open count) (now (store .entry)) (now (piece .entry)) r (now (store .exit)) ⌝ }
 {
     let most = least(MOST - count, piece.len());
-    let k = find(&piece[..most], SOI, CR);
+    let k = find_end(&piece[..most]);
     buffer::put_all(store, count, &piece[..k]);
     k
 }
@@ -218,7 +253,7 @@ impl Receiver {
         ensures { λ r. ⌜ Passed self (now (store .entry)) (now (piece .entry)) r (now (store .exit)) ⌝ }
     {
         match self {
-            Receiver::Waiting => find(piece, SOI, SOI),
+            Receiver::Waiting => find_soi(piece),
             Receiver::Open(count) => store_plain(store, count, piece),
         }
     }

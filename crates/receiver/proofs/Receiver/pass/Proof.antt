@@ -14,8 +14,8 @@ use Rattle.receiver.proofs.Receiver.pass.Tie as tie
 enum-told : tie.Need-enum-told
 enum-told c = search needs
 
-find-requires : tie.Need-find-requires
-find-requires c κs = search needs
+find-soi-requires : tie.Need-find-soi-requires
+find-soi-requires c κs = search needs
 
 enum-known-self : tie.Need-enum-known-self
 enum-known-self c = search needs
@@ -24,7 +24,7 @@ store-plain-requires : tie.Need-store-plain-requires
 store-plain-requires c κs = let h : countOf (Open (c .before .before .self .given .0 .0)) ≤ 4110 = rw (c .before .before .self .given .1) at (c .before .before .before .before .before .before .pre .1) in (c .before .before .before .before .before .before .pre .0, h)
 
 returns : tie.Need-returns
-returns c = subst (λ (r : Receiver). Passed r (c .before .before .before .before .before .args .store .now) (c .before .before .before .before .before .args .piece .now) (c .find .result) (c .before .before .before .before .before .args .store .now)) (sym (c .before .enum-told .given .1)) (passed-wait (c .before .before .before .before .before .args .store .now) (c .before .before .before .before .before .args .piece .now) (c .find .result) (c .before .before .before .before .before .pre .0) (c .find .ensures))
+returns c = subst (λ (r : Receiver). Passed r (c .before .before .before .before .before .args .store .now) (c .before .before .before .before .before .args .piece .now) (c .find-soi .result) (c .before .before .before .before .before .args .store .now)) (sym (c .before .enum-told .given .1)) (passed-wait (c .before .before .before .before .before .args .store .now) (c .before .before .before .before .before .args .piece .now) (c .find-soi .result) (c .before .before .before .before .before .pre .0) (c .find-soi .ensures))
 
 same-length : tie.Need-same-length
 same-length c = search needs
@@ -37,7 +37,7 @@ pass-spec =
     tie.close
     (tie.spec
     enum-told
-    find-requires
+    find-soi-requires
     enum-known-self
     store-plain-requires
     returns

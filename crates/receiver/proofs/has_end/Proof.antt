@@ -5,15 +5,15 @@ use Prim.Native.Nat.{_-_, _≤_}
 use native.Mathlib.Omega.{arith}
 use lib.ListN.{length, drop}
 use Rattle.receiver.proofs.Scans.{any-turn, any-end}
-use Rattle.receiver.specs.Scan.{either, any, before}
-use Rattle.receiver.proofs.has.Statement.{statement}
-use Rattle.receiver.proofs.has.Tie as tie
+use Rattle.receiver.specs.Scan.{isEnd, any, before}
+use Rattle.receiver.proofs.has_end.Statement.{statement}
+use Rattle.receiver.proofs.has_end.Tie as tie
 
 abbrev Inv-loop : tie.InvT-loop
-Inv-loop s a b hit₀ i₀ hit i = (i ≤ length s) × ((hit || any (either a b) (drop i s)) ≡ any (either a b) s)
+Inv-loop s hit₀ i₀ hit i = (i ≤ length s) × ((hit || any isEnd (drop i s)) ≡ any isEnd s)
 
 abbrev μ-loop : tie.MeasureT-loop
-μ-loop s a b hit₀ i₀ hit i = length s - i
+μ-loop s hit₀ i₀ hit i = length s - i
 
 loop-holds : tie.Need-loop-holds Inv-loop μ-loop
 loop-holds c = (omega arith, refl)
@@ -28,12 +28,12 @@ loop-less : tie.Need-loop-less Inv-loop μ-loop
 loop-less c = omega arith
 
 loop-again : tie.Need-loop-again Inv-loop μ-loop
-loop-again c = (omega arith, any-turn (either (c .before .before .before .args .a) (c .before .before .before .args .b)) (c .before .before .before .args .s .now) (c .before .before .loop .i) (c .before .before .loop .hit) (omega arith) ∙ c .before .before .loop .inv .1)
+loop-again c = (omega arith, any-turn isEnd (c .before .before .before .args .s .now) (c .before .before .loop .i) (c .before .before .loop .hit) (omega arith) ∙ c .before .before .loop .inv .1)
 
 returns : tie.Need-returns Inv-loop μ-loop
-returns c = any-end (either (c .before .before .args .a) (c .before .before .args .b)) (c .before .before .args .s .now) (c .before .loop .i) (c .before .loop .hit) (omega arith) ∙ c .before .loop .inv .1
+returns c = any-end isEnd (c .before .before .args .s .now) (c .before .loop .i) (c .before .loop .hit) (omega arith) ∙ c .before .loop .inv .1
 
-pub has-spec : {M : Type 1} → statement M
-has-spec =
+pub has-end-spec : {M : Type 1} → statement M
+has-end-spec =
     tie.close
     (tie.spec Inv-loop μ-loop loop-holds shared-slice-read-x add-i loop-less loop-again returns)
