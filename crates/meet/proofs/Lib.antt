@@ -1,0 +1,4 @@
+pub mod Codes
+pub mod Data
+pub mod Sent
+pub mod Meet
