@@ -2,3 +2,5 @@ pub mod Codes
 pub mod Data
 pub mod Sent
 pub mod Meet
+pub mod Kept
+pub mod Readings
