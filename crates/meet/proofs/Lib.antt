@@ -4,3 +4,5 @@ pub mod Sent
 pub mod Meet
 pub mod Kept
 pub mod Readings
+pub mod Off
+pub mod Vectors
