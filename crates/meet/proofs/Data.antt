@@ -1,11 +1,11 @@
 -- Each command's data can be encoded, are bytes, and are read back: per kind the codec's laws, whose `ok` is what the table's rule says.
 use mathlib.Core.Path.{_≡_, refl, sym, ap, _∙_, subst}
-use mathlib.Core.Bool.{Bool, true, false, cond, _&&_}
+use mathlib.Core.Bool.{Bool, true, false, cond}
 use mathlib.Core.List.{List, [], _∷_}
 use Prim.Native.Nat.{ℕ, zero, suc, _+_, _≤_, _<_}
 use native.Mathlib.Omega.{arith}
 use lib.ListN.{length}
-use lib.Dec.{T, ltb, eqb, lt→ltb}
+use lib.Dec.{T, ltb, lt→ltb}
 use mir.Facts.{yes-and}
 use borrow.Author.Tests.{eq-eqb, lt-ltb}
 use Rattle.buffer.proofs.Lists.{never, by-cond}

@@ -6,3 +6,4 @@ pub mod Kept
 pub mod Readings
 pub mod Off
 pub mod Vectors
+pub mod Asked

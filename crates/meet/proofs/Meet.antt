@@ -1,9 +1,8 @@
 -- Whatever the stand-in answers to a question that the reply reader takes, the reader reads without a refusal: the frame is read back, the gate is open, and each kind of data is read back.
 use mathlib.Core.Path.{_≡_, refl, sym, ap, _∙_, subst}
-use mathlib.Core.Bool.{Bool, true, false, cond, not, _&&_, _||_}
-use mathlib.Core.List.{List, [], _∷_, _++_}
-use Prim.Native.Nat.{ℕ, _*_, _≤_, _<_}
-use native.Mathlib.Omega.{arith}
+use mathlib.Core.Bool.{Bool, true, false, cond, not, _&&_}
+use mathlib.Core.List.{List, []}
+use Prim.Native.Nat.{ℕ, _*_, _<_}
 use lib.ListN.{length, drop}
 use lib.Dec.{ltb, eqb}
 use borrow.Author.Tests.{le-ltb, eq-eqb}
@@ -21,10 +20,9 @@ use Rattle.infos.specs.Nothing.{noMaker}
 use Rattle.rules.proofs.Fine.{both-true, keeps-parts}
 use Rattle.table.specs.declared.Station.{Station}
 use Rattle.table.specs.declared.Table.{Table}
-use Rattle.table.specs.Table.{members, isMaster, hasMember}
+use Rattle.table.specs.Table.{members, hasMember}
 use Rattle.table.specs.Rule.{rule, keeps}
 use Rattle.command.specs.declared.Kind.{Kind}
-use Rattle.command.specs.declared.Kind.the-variants.{AnalogGroup, AlarmGroup}
 use Rattle.command.specs.Command.{kindOf, formOf, termsOf}
 use Rattle.command.specs.Heard.{Words, words}
 use Rattle.standin.specs.declared.Said.{Said}
@@ -39,7 +37,7 @@ use Rattle.standin.proofs.Replies.{said-on}
 use Rattle.reply.specs.declared.Question.{Question}
 use Rattle.reply.specs.declared.Reading.{Reading}
 use Rattle.reply.specs.Gate.{isCode, asks, gate, frameGate}
-use Rattle.reply.specs.Read.{Left, leaves, read, paper, took, given, byCode, readReply, Reads}
+use Rattle.reply.specs.Read.{Left, leaves, read, paper, took, given, readReply, Reads}
 use Rattle.reply.proofs.Ways.{way-open}
 use Rattle.meet.specs.Copied.{OfBytes, copied, makerFor, readBack, Alike}
 use Rattle.meet.proofs.Codes.{said-known}
@@ -60,10 +58,10 @@ unfolding asks
 asked-served q e = served-form (q .cid2) (q .command) (both-true (termsOf (kindOf (q .cid2)) .served) _ e .0)
 
 -- ---- the words of a frame
-abbrev wordsFor : Header → List ℕ → List ℕ → Words
+abbrev pub wordsFor : Header → List ℕ → List ℕ → Words
 wordsFor h info c = record { told = frame h (2 * length info); header = h; lenid = 2 * length info; command = byteAt c 12 }
 
-words-of : (h : Header) (info c : List ℕ) → Encodes h info c → wordsFor h info c ≡ words c
+pub words-of : (h : Header) (info c : List ℕ) → Encodes h info c → wordsFor h info c ≡ words c
 unfolding words
 words-of h info c e =
     let g = chars-read h info c e in

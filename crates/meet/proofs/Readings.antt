@@ -1,6 +1,6 @@
 -- Every reading leaves a table that keeps its rule: what a codec read can be encoded, so each kind of change is safe.
-use mathlib.Core.Path.{_≡_, refl, sym, ap, _∙_, subst}
-use mathlib.Core.Bool.{Bool, true, false, cond, _&&_}
+use mathlib.Core.Path.{_≡_, refl}
+use mathlib.Core.Bool.{Bool, true}
 use mathlib.Core.List.{List, [], _∷_}
 use Prim.Native.Nat.{ℕ, zero, suc, _<_}
 use lib.ListN.{length}
@@ -12,27 +12,27 @@ use Rattle.hex.proofs.Laws.{bytes-unhexes}
 use Rattle.frame.specs.Frame.{infoAt}
 use Rattle.codec.specs.Codec.{Codec, byte}
 use Rattle.codec.specs.Both.{_then_}
-use Rattle.codec.specs.Whole.{Told, told, refuse, Whole, mapped, lead, ended}
-use Rattle.codec.specs.Many.{many, many-ok}
+use Rattle.codec.specs.Whole.{Told, told, refuse, Whole, mapped}
+use Rattle.codec.specs.Many.{many-ok}
 use Rattle.record.specs.declared.Module.{Module}
 use Rattle.record.specs.Analog.{analog}
 use Rattle.record.specs.Alarm.{alarm}
 use Rattle.record.specs.Limits.{limits}
 use Rattle.record.specs.Texts.{serial, version, maker}
 use Rattle.record.specs.Infos.{command, analogInfo, alarmInfo, limitsInfo, serialInfo, versionInfo, some-analog, some-alarm, analogGroup, alarmGroup}
-use Rattle.infos.specs.Nothing.{nothing, noMaker}
+use Rattle.infos.specs.Nothing.{nothing}
 use Rattle.rules.proofs.Rules.{is-true}
 use Rattle.table.specs.Table.{countOn}
 use Rattle.table.specs.Rule.{rule}
-use Rattle.changes.specs.Changes.{replaced, dealt, withAnalog, withAlarm, withLimits, withSerial, withVersion}
+use Rattle.changes.specs.Changes.{dealt, withAnalog, withAlarm, withLimits, withSerial, withVersion}
 use Rattle.command.specs.declared.Kind.{Kind}
 use Rattle.command.specs.declared.Kind.the-variants.{Analog, AnalogGroup, Alarm, AlarmGroup, Protocol, Maker, Limits, Serial, TurnOff, Version, Unserved}
 use Rattle.command.specs.Command.{formOf}
-use Rattle.command.specs.Heard.{Words, words}
+use Rattle.command.specs.Heard.{words}
 use Rattle.reply.specs.declared.Question.{Question}
 use Rattle.reply.specs.Gate.{gate}
-use Rattle.reply.specs.Read.{Data, Left, took, forAll, given, byCode, unless, readReply}
-use Rattle.meet.proofs.Kept.{Safe, Oks, replaced-rule, dealt-rule, analog-safe, alarm-safe, limits-safe, serial-safe, version-safe}
+use Rattle.reply.specs.Read.{Data, Left, took, forAll, given, readReply}
+use Rattle.meet.proofs.Kept.{Oks, replaced-rule, dealt-rule, analog-safe, alarm-safe, limits-safe, serial-safe, version-safe}
 
 -- the records that a reading would leave keep the rule
 abbrev Kept : Told Data → Type 0

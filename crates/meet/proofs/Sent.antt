@@ -1,18 +1,17 @@
 -- Whatever the stand-in sends is a whole encoding, so the receiver hands it out: header and data are bytes, and the data are short.
-use mathlib.Core.Path.{_≡_, refl, sym, ap, _∙_, subst}
-use mathlib.Core.Bool.{Bool, true, false, cond}
+use mathlib.Core.Path.{_≡_, refl}
+use mathlib.Core.Bool.{true}
 use mathlib.Core.List.{List, [], _∷_, _++_, append-assoc}
 use Prim.Native.Nat.{ℕ, suc, _+_, _-_, _*_, _≤_, _<_}
 use native.Mathlib.Omega.{arith}
-use lib.ListN.{length, take, drop}
+use lib.ListN.{length}
 use lib.Seq.{take-at}
 use lib.Dec.{ltb, eqb}
-use borrow.Author.Tests.{le-ltb}
 use Rattle.buffer.proofs.Lists.{by-cond}
 use Rattle.hex.specs.Hex.{Bytes, byteAt}
 use Rattle.hex.proofs.Laws.{byte-small}
 use Rattle.frame.specs.declared.Header.{Header}
-use Rattle.frame.specs.Frame.{SOI, CR, chars, encode, Encodes, Frames}
+use Rattle.frame.specs.Frame.{SOI, CR, chars, encode, Encodes}
 use Rattle.frame.specs.Judge.{frame, header}
 use Rattle.frame.proofs.Steps.{length-chars, length-encode}
 use Rattle.frame.proofs.Round.{between}
