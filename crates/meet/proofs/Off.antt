@@ -1,0 +1,108 @@
+-- What the stand-in's table holds after its answer: with an accepted 95H one module is off, after any other answer all is as it was. List work on the place that is set.
+use mathlib.Core.Path.{_≡_, refl, sym, ap, _∙_}
+use mathlib.Core.Logic.{⊎-elim}
+use mathlib.Core.Bool.{Bool, true, false, cond, not, _||_}
+use mathlib.Core.List.{List, [], _∷_}
+use Prim.Native.Nat.{ℕ, _≤_, _<_}
+use lib.ListN.{length, getD, set, length-set, List·getD-eq-default}
+use lib.Seq.{set-out, getD-set-same, getD-set-other}
+use lib.Dec.{eqb}
+use borrow.Author.Tests.{ne-eqb}
+use Rattle.codec.proofs.Places.{le-or-lt}
+use Rattle.record.specs.declared.Module.{Module}
+use Rattle.rules.proofs.Fine.{rule-parts}
+use Rattle.table.specs.declared.Station.{Station}
+use Rattle.table.specs.Table.{blank, isOn, placeOf, memberAt}
+use Rattle.table.specs.Rule.{rule}
+use Rattle.command.specs.declared.Kind.{Kind}
+use Rattle.command.specs.declared.Kind.the-variants.{Analog, AnalogGroup, Alarm, AlarmGroup, Protocol, Maker, Limits, Serial, TurnOff, Version, Unserved}
+use Rattle.command.specs.Heard.{Words, numberOf}
+use Rattle.changes.specs.Changes.{switchedOff}
+use Rattle.standin.specs.declared.Said.{Said}
+use Rattle.standin.specs.declared.Said.the-variants.{Silent}
+use Rattle.standin.specs.Says.{decide}
+use Rattle.standin.specs.Answer.{kindAsked, offBy, offFor, offAt}
+use Rattle.meet.specs.Off.{TurnedOff}
+use Rattle.meet.proofs.Kept.{Changed, set-changed, off-safe, off-rule}
+
+changed-place : (adr : ℕ) (ms ns : List Module) → Changed ms ns → placeOf adr ns ≡ placeOf adr ms
+unfolding placeOf
+changed-place adr [] [] c = refl
+changed-place adr [] (n ∷ ns) c = absurd c
+changed-place adr (m ∷ ms) [] c = absurd c
+changed-place adr (m ∷ ms) (n ∷ ns) c = rw (c .0 .0, changed-place adr ms ns (c .1))
+
+quiet : (a b : Bool) (rest : Said) → b ≡ true → cond a Silent (cond b Silent rest) ≡ Silent
+quiet true b rest e = refl
+quiet false true rest e = refl
+quiet false false rest e = ap (λ (t : Bool). cond t Silent rest) e
+
+module _ (adr : ℕ) (ms : List Module) where
+  -- where there is no such member, the blank record, which is off
+  off-member : memberAt adr (offAt (placeOf adr ms) ms) ≡ switchedOff (memberAt adr ms)
+  unfolding memberAt offAt
+  off-member =
+      let i = placeOf adr ms in
+      let x = switchedOff (getD ms i blank) in
+      ap (λ (k : ℕ). getD (set ms i x) k blank) (changed-place adr ms (set ms i x) (set-changed switchedOff off-safe ms i blank))
+      ∙ ⊎-elim
+      (λ (h : length ms ≤ i).
+      ap (λ (l : List Module). getD l i blank) (set-out ms i x h)
+      ∙ List·getD-eq-default ms blank h ∙ ap switchedOff (sym (List·getD-eq-default ms blank h)))
+      (λ (h : i < length ms). getD-set-same ms i x blank h)
+      (le-or-lt (length ms) i)
+
+  off-silent : (st : Station) (w : Words) → w .header .adr ≡ adr → decide st (offAt (placeOf adr ms) ms) w ≡ Silent
+  unfolding decide
+  off-silent st w e =
+      let number = numberOf (w .told) in
+      let ns = offAt (placeOf adr ms) ms in
+      let off : not (isOn (memberAt (w .header .adr) ns)) ≡ true = ap (λ (a : ℕ). not (isOn (memberAt a ns))) e ∙ ap (λ (m : Module). not (isOn m)) off-member in
+      quiet ((eqb number 1 || eqb number 3) || eqb number 4) (not (isOn (memberAt (w .header .adr) ns))) _ off
+
+  pub turned-off : TurnedOff adr ms (offAt (placeOf adr ms) ms)
+  unfolding offAt
+  turned-off =
+      let i = placeOf adr ms in
+      let x = switchedOff (getD ms i blank) in
+      record {
+        count = length-set ms i x;
+        off = off-member;
+        others = λ j d n. getD-set-other ms i j x d n;
+        kept = off-rule i ms;
+        silent = off-silent;
+      }
+
+-- ---- the place that the stand-in's answer names
+
+-- an accepted 95H: the module with that ADR
+pub accepted-off : (ms : List Module) (w : Words) → kindAsked w ≡ TurnOff → TurnedOff (w .header .adr) ms (offAt (offFor ms w 0) ms)
+unfolding offFor offBy
+accepted-off ms w e = rw e (turned-off (w .header .adr) ms)
+
+stays : (ms : List Module) → rule ms ≡ true → offAt 12 ms ≡ ms
+unfolding offAt
+stays ms e = set-out ms 12 (switchedOff (getD ms 12 blank)) (rule-parts ms e .few)
+
+-- another code, or another command: no record
+pub refused-stays : (ms : List Module) (w : Words) (code : ℕ) → rule ms ≡ true → (code ≡ 0 → ⊥) → offAt (offFor ms w code) ms ≡ ms
+unfolding offFor
+refused-stays ms w code e n = rw (ne-eqb code 0 n) (stays ms e)
+
+by-kind : (k : Kind) (ms : List Module) (adr : ℕ) → (k ≡ TurnOff → ⊥) → offBy k ms adr ≡ 12
+unfolding offBy
+by-kind Analog ms adr n = refl
+by-kind AnalogGroup ms adr n = refl
+by-kind Alarm ms adr n = refl
+by-kind AlarmGroup ms adr n = refl
+by-kind Protocol ms adr n = refl
+by-kind Maker ms adr n = refl
+by-kind Limits ms adr n = refl
+by-kind Serial ms adr n = refl
+by-kind TurnOff ms adr n = absurd (n refl)
+by-kind Version ms adr n = refl
+by-kind Unserved ms adr n = refl
+
+pub other-stays : (ms : List Module) (w : Words) → rule ms ≡ true → (kindAsked w ≡ TurnOff → ⊥) → offAt (offFor ms w 0) ms ≡ ms
+unfolding offFor
+other-stays ms w e n = rw (by-kind (kindAsked w) ms (w .header .adr) n) (stays ms e)

@@ -1,0 +1,1 @@
+// The stand-in and the reply reader meet: theorems over their contracts, and no function.
