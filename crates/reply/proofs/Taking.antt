@@ -10,11 +10,17 @@ use borrow.Author.Tests.{eq-eqb, ne-eqb}
 use Rattle.refusal.specs.declared.Refusal.{Refusal}
 use Rattle.refusal.specs.declared.Refusal.the-variants.{RecordsDiffer}
 use Rattle.refusal.specs.Number.{number}
-use Rattle.codec.specs.Codec.{Codec}
+use Rattle.codec.specs.Codec.{Codec, byte}
+use Rattle.codec.specs.Both.{_then_}
 use Rattle.codec.specs.Counted.{padTo}
-use Rattle.codec.specs.Whole.{Told, told, refuse, mapped, mapped-inv, onward-inv, told-value, refuse-told}
-use Rattle.codec.specs.Many.{many-get}
+use Rattle.codec.specs.Whole.{Told, told, refuse, mapped, mapped-inv, onward-inv, told-value, refuse-told, lead-get}
+use Rattle.codec.specs.Many.{many, many-get}
 use Rattle.record.specs.declared.Module.{Module}
+use Rattle.record.specs.declared.Analog.{Analog}
+use Rattle.record.specs.declared.Alarm.{Alarm}
+use Rattle.record.specs.Analog.{analog}
+use Rattle.record.specs.Alarm.{alarm}
+use Rattle.record.specs.Infos.{Front, command, some-analog, some-alarm, analogGroup, alarmGroup}
 use Rattle.infos.specs.declared.Taken.{Taken}
 use Rattle.infos.specs.Nothing.{noMaker}
 use Rattle.infos.specs.Took.{paper, taken}
@@ -35,24 +41,21 @@ not-read t left why e = record { is = e; count = refl }
 -- ---- one module
 
 module _ {A X : Type 0} (none : A) (how : X → ℕ × A) (w : Told X) (tk : Taken) (a : A) (e : paper tk a ≡ taken none how w) (ver : ℕ) (t : Table) where
-  module _ (then : A → List ℕ × List Module) where
-    found : X → Data
-    found x = (how x .0, then (how x .1))
-
-    pub one-refused : (why : Refusal) → tk ≡ Taken.Refused why → Reads (given ver (members t) (mapped w (λ x. (how x .0, then (how x .1))))) t (record { outcome = Refused why; maker = noMaker; table = t })
+  module _ (after : A → List ℕ × List Module) where
+    pub one-refused : (why : Refusal) → tk ≡ Taken.Refused why → Reads (given ver (members t) (mapped w (λ x. (how x .0, after (how x .1))))) t (record { outcome = Refused why; maker = noMaker; table = t })
     one-refused why g =
         let r = when-refused none how w tk a e g in
-        not-read t _ why (ap (λ (y : Told X). given ver (members t) (mapped y (λ x. (how x .0, then (how x .1))))) (sym (r .0)))
+        not-read t _ why (ap (λ (y : Told X). given ver (members t) (mapped y (λ x. (how x .0, after (how x .1))))) (sym (r .0)))
 
-    pub one-read : (flag : ℕ) → tk ≡ Taken.Taken flag → (maker : List ℕ) (next : Table) → (maker, members next) ≡ then a → next .count ≡ t .count
-        → Reads (given ver (members t) (mapped w (λ x. (how x .0, then (how x .1))))) t (record { outcome = Read ver 0 flag; maker = maker; table = next })
+    pub one-read : (flag : ℕ) → tk ≡ Taken.Taken flag → (maker : List ℕ) (next : Table) → _≡_ {A = List ℕ × List Module} (maker, members next) (after a) → next .count ≡ t .count
+        → Reads (given ver (members t) (mapped w (λ x. (how x .0, after (how x .1))))) t (record { outcome = Read ver 0 flag; maker = maker; table = next })
     one-read flag g maker next m c =
         let r = when-taken none how w tk a e g in
-        let both : (maker, members next) ≡ then (how (r .0) .1) = m ∙ ap then (sym (r .3)) in
+        let both : _≡_ {A = List ℕ × List Module} (maker, members next) (after (how (r .0) .1)) = m ∙ ap after (sym (r .3)) in
         record {
           is =
               (λ i. leaves (read ver 0 (sym (r .2) i)) (both i .0) (both i .1))
-              ∙ ap (λ (y : Told X). given ver (members t) (mapped y (λ x. (how x .0, then (how x .1))))) (sym (r .1));
+              ∙ ap (λ (y : Told X). given ver (members t) (mapped y (λ x. (how x .0, after (how x .1))))) (sym (r .1));
           count = c;
         }
 
@@ -67,6 +70,22 @@ module _ {A : Type 0} (c : Codec A) (some : (a : A) → T (c .ok a) → 0 < leng
       let u = onward-inv (c .get (x ∷ s)) (λ a r. mapped (many-get c some K r) (λ l. a ∷ l)) l e in
       let v = mapped-inv (many-get c some K (u .1)) (λ l. u .0 ∷ l) l (u .3) in
       subst (λ (y : List A). length y ≤ suc K) (v .2) (let h = many-few K (u .1) (v .0) (v .1) in omega arith)
+
+-- after flag and FFH
+group-few : {A B : Type 0} (c : Codec B) (d : Codec A) (some : (a : A) → T (d .ok a) → 0 < length (d .put a)) (K : ℕ) (s : List ℕ) (x : B × List A)
+    → lead-get c (λ y. many d some K) s ≡ told x → length (x .1) ≤ K
+group-few {A} {B} c d some K s x e =
+    let u = onward-inv (c .get s) (λ a r. mapped (many-get d some K r) (λ b. (a, b))) x e in
+    let v = mapped-inv (many-get d some K (u .1)) (λ b. (u .0, b)) x (u .3) in
+    subst (λ (y : B × List A). length (y .1) ≤ K) (v .2) (many-few d some K (u .1) (v .0) (v .1))
+
+pub analogs-few : (s : List ℕ) (x : Front × List Analog) → analogGroup .get s ≡ told x → length (x .1) ≤ 12
+unfolding analogGroup
+analogs-few s x e = group-few (byte then command 0xFF) analog some-analog 12 s x e
+
+pub alarms-few : (s : List ℕ) (x : Front × List Alarm) → alarmGroup .get s ≡ told x → length (x .1) ≤ 12
+unfolding alarmGroup
+alarms-few s x e = group-few (byte then command 0xFF) alarm some-alarm 12 s x e
 
 take-pad : {A : Type 0} (z : A) (N : ℕ) (l : List A) → length l ≤ N → take (length l) (padTo z N l) ≡ l
 take-pad z zero [] h = refl
@@ -93,7 +112,7 @@ module _ {A : Type 0} (none : A) (f : A → Module → Module) (w : Told ((ℕ �
     unfolding x
     flag-is = when-taken (noPlaces none) (grouped none) w tk (count, values) e g .2
 
-    places-are : (length (x .1), padTo none 12 (x .1)) ≡ (count, values)
+    places-are : _≡_ {A = ℕ × List A} (length (x .1), padTo none 12 (x .1)) (count, values)
     unfolding x
     places-are = when-taken (noPlaces none) (grouped none) w tk (count, values) e g .3
 

@@ -1,57 +1,51 @@
+-- 31, the gate, then the data.
+use mathlib.Core.Path.{sym, ap, _∙_, subst}
+use Prim.Native.Nat.{_-_}
+use lib.ListN.{take}
+use borrow.Author.Tests.{not-true, not-false}
 use borrow.Author.Needs.{needs}
+use Rattle.reply.proofs.Ways.{way-broken, way-refused, way-open}
+use Rattle.reply.proofs.Taking.{not-read}
+use Rattle.reply.specs.Read.{given, readReply, Reads}
+use Rattle.reply.specs.Gate.{paper, gate}
+use Rattle.command.specs.Heard.{wordsOf, words}
+use Rattle.table.specs.Rule.{keeps}
+use Rattle.table.specs.Table.{members}
 use Rattle.reply.proofs.read.Statement.{statement}
 use Rattle.reply.proofs.read.Tie as tie
-use Rattle.reply.proofs.read.Reads as reads
-use Rattle.reply.proofs.read.Lts as lts
-use Rattle.command.proofs.hear.Reads as hear-reads
-use Rattle.reply.proofs.gate.Reads as gate-reads
-use Rattle.reply.proofs.not_read.Reads as not-read-reads
-use Rattle.reply.proofs.read_open.Reads as read-open-reads
-use Rattle.rules.proofs.keeps_rule.Reads as keeps-rule-reads
 
--- src/lib.rt:314:9
 keeps-rule-requires : tie.Need-keeps-rule-requires
 keeps-rule-requires c κs = search needs
 
--- src/lib.rt:315:9
 not-read-requires : tie.Need-not-read-requires
 not-read-requires c κs = search needs
 
--- src/lib.rt:315:9
 returns : tie.Need-returns
-returns c = ?
+returns c = subst (Reads (readReply (keeps (c .before .before .before .before .args .table)) (members (c .before .before .before .before .args .table)) (c .before .before .before .before .args .question) (c .before .before .before .before .args .stretch .now)) (c .before .before .before .before .args .table)) (sym (c .not-read .ensures)) (not-read (c .before .before .before .before .args .table) _ _ (way-broken (keeps (c .before .before .before .before .args .table)) (members (c .before .before .before .before .args .table)) (c .before .before .before .before .args .question) (c .before .before .before .before .args .stretch .now) (sym (c .before .before .keeps-rule .ensures) ∙ not-true (c .before .before .keeps-rule .result) (c .before .if1 .taken))))
 
--- src/lib.rt:317:9
 hear-requires : tie.Need-hear-requires
 hear-requires c κs = search needs
 
--- src/lib.rt:318:9
 gate-requires : tie.Need-gate-requires
 gate-requires c κs = search needs
 
--- src/lib.rt:320:24
 enum-known-entry : tie.Need-enum-known-entry
 enum-known-entry c = search needs
 
--- src/lib.rt:320:32
 not-read-requires-2 : tie.Need-not-read-requires-2
 not-read-requires-2 c κs = search needs
 
--- src/lib.rt:321:24
 enum-told : tie.Need-enum-told
 enum-told c = search needs
 
--- src/lib.rt:321:24
 read-open-requires : tie.Need-read-open-requires
-read-open-requires c κs = ?
+read-open-requires c κs = (c .before .before .before .hear .ensures, sym (c .before .before .gate .ensures) ∙ ap paper (c .enum-told .given .1))
 
--- src/lib.rt:311:1
 returns-2 : tie.Need-returns-2
-returns-2 c = ?
+returns-2 c = subst (Reads (readReply (keeps (c .before .before .before .before .before .before .before .before .before .args .table)) (members (c .before .before .before .before .before .before .before .before .before .args .table)) (c .before .before .before .before .before .before .before .before .before .args .question) (c .before .before .before .before .before .before .before .before .before .args .stretch .now)) (c .before .before .before .before .before .before .before .before .before .args .table)) (sym (c .not-read2 .ensures)) (not-read (c .before .before .before .before .before .before .before .before .before .args .table) _ _ (way-refused (keeps (c .before .before .before .before .before .before .before .before .before .args .table)) (members (c .before .before .before .before .before .before .before .before .before .args .table)) (c .before .before .before .before .before .before .before .before .before .args .question) (c .before .before .before .before .before .before .before .before .before .args .stretch .now) (sym (c .before .before .before .before .before .before .before .keeps-rule .ensures) ∙ not-false (c .before .before .before .before .before .before .before .keeps-rule .result) (c .before .before .before .before .before .before .if1 .left)) (wordsOf (c .before .before .before .before .before .hear .result)) (c .before .before .before .before .before .hear .ensures) (c .before .before .entry .given .0 .0) (sym (ap paper (c .before .before .entry .given .1)) ∙ c .before .before .before .before .gate .ensures)))
 
--- src/lib.rt:311:1
 returns-3 : tie.Need-returns-3
-returns-3 c = ?
+returns-3 c = record { is = c .read-open .ensures .is ∙ way-open (keeps (c .before .before .before .before .before .before .before .before .args .table)) (members (c .before .before .before .before .before .before .before .before .args .table)) (c .before .before .before .before .before .before .before .before .args .question) (c .before .before .before .before .before .before .before .before .args .stretch .now) (sym (c .before .before .before .before .before .before .keeps-rule .ensures) ∙ not-false (c .before .before .before .before .before .before .keeps-rule .result) (c .before .before .before .before .before .if1 .left)) (wordsOf (c .before .before .before .before .hear .result)) (c .before .before .before .before .hear .ensures) (sym (ap paper (c .before .enum-told .given .1)) ∙ c .before .before .before .gate .ensures); count = c .read-open .ensures .count }
 
 pub read-spec : {M : Type 1} → statement M
 read-spec =

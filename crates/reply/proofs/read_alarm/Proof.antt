@@ -1,44 +1,46 @@
+-- Refused, or the part is stored in its record.
+use mathlib.Core.Path.{sym, subst}
+use Prim.Native.Nat.{_-_}
+use lib.ListN.{take}
 use borrow.Author.Needs.{needs}
+use Rattle.reply.proofs.Taking.{not-read, one-refused, one-read}
+use Rattle.reply.specs.Read.{took, given, Reads}
+use Rattle.command.specs.declared.Kind.{Kind}
+use Rattle.changes.specs.Changes.{replaced, withAlarm}
+use Rattle.table.specs.Table.{members}
+use Rattle.infos.specs.Nothing.{noMaker}
+use Rattle.infos.specs.Took.{flagged}
+use Rattle.record.specs.Infos.{alarmInfo}
+use Rattle.alarm_reader.specs.Nothing.{noAlarm}
+use Rattle.hex.specs.Hex.{unhexes}
 use Rattle.reply.proofs.read_alarm.Statement.{statement}
 use Rattle.reply.proofs.read_alarm.Tie as tie
-use Rattle.reply.proofs.read_alarm.Reads as reads
-use Rattle.reply.proofs.read_alarm.Lts as lts
-use Rattle.changes.proofs.with_alarm.Reads as with-alarm-reads
-use Rattle.infos.proofs.take_alarm.Reads as take-alarm-reads
-use Rattle.reply.proofs.not_read.Reads as not-read-reads
-use Rattle.reply.proofs.was_read.Reads as was-read-reads
 
--- src/lib.rt:152:9
 take-alarm-requires : tie.Need-take-alarm-requires
 take-alarm-requires c κs = search needs
 
--- src/lib.rt:155:24
 enum-known-taken : tie.Need-enum-known-taken
 enum-known-taken c = search needs
 
--- src/lib.rt:155:32
 not-read-requires : tie.Need-not-read-requires
 not-read-requires c κs = search needs
 
--- src/lib.rt:156:22
 enum-known-taken-2 : tie.Need-enum-known-taken-2
 enum-known-taken-2 c = search needs
 
--- src/lib.rt:158:17
 with-alarm-requires : tie.Need-with-alarm-requires
 with-alarm-requires c κs = search needs
 
--- src/lib.rt:159:13
 was-read-requires : tie.Need-was-read-requires
 was-read-requires c κs = search needs
 
--- src/lib.rt:149:1
 returns : tie.Need-returns
-returns c = ?
+unfolding took
+returns c = subst (Reads (given (c .before .before .before .before .before .before .args .ver) (members (c .before .before .before .before .before .before .args .table)) (took Kind.Alarm (members (c .before .before .before .before .before .before .args .table)) (c .before .before .before .before .before .before .args .adr) (unhexes (c .before .before .before .before .before .before .args .info .now)))) (c .before .before .before .before .before .before .args .table)) (sym (c .not-read .ensures)) (one-refused noAlarm flagged (alarmInfo (c .before .before .before .before .before .before .args .adr) .get (unhexes (c .before .before .before .before .before .before .args .info .now))) (c .before .before .before .before .take-alarm .result .taken) (c .before .before .before .before .take-alarm .result .alarm) (c .before .before .before .before .take-alarm .ensures) (c .before .before .before .before .before .before .args .ver) (c .before .before .before .before .before .before .args .table) (λ a. (noMaker, replaced (c .before .before .before .before .before .before .args .adr) (withAlarm a) (members (c .before .before .before .before .before .before .args .table)))) (c .before .before .taken .given .0 .0) (c .before .before .taken .given .1))
 
--- src/lib.rt:149:1
 returns-2 : tie.Need-returns-2
-returns-2 c = ?
+unfolding took
+returns-2 c = subst (Reads (given (c .before .before .before .before .before .before .before .before .args .ver) (members (c .before .before .before .before .before .before .before .before .args .table)) (took Kind.Alarm (members (c .before .before .before .before .before .before .before .before .args .table)) (c .before .before .before .before .before .before .before .before .args .adr) (unhexes (c .before .before .before .before .before .before .before .before .args .info .now)))) (c .before .before .before .before .before .before .before .before .args .table)) (sym (c .was-read .ensures)) (one-read noAlarm flagged (alarmInfo (c .before .before .before .before .before .before .before .before .args .adr) .get (unhexes (c .before .before .before .before .before .before .before .before .args .info .now))) (c .before .before .before .before .before .before .take-alarm .result .taken) (c .before .before .before .before .before .before .take-alarm .result .alarm) (c .before .before .before .before .before .before .take-alarm .ensures) (c .before .before .before .before .before .before .before .before .args .ver) (c .before .before .before .before .before .before .before .before .args .table) (λ a. (noMaker, replaced (c .before .before .before .before .before .before .before .before .args .adr) (withAlarm a) (members (c .before .before .before .before .before .before .before .before .args .table)))) (c .before .before .before .before .taken2 .given .0 .0) (c .before .before .before .before .taken2 .given .1) noMaker (c .before .with-alarm .result) (λ i. (noMaker, c .before .with-alarm .ensures .members-are i)) (c .before .with-alarm .ensures .count))
 
 pub read-alarm-spec : {M : Type 1} → statement M
 read-alarm-spec =

@@ -1,44 +1,46 @@
+-- Refused, or the part is stored in its record.
+use mathlib.Core.Path.{sym, subst}
+use Prim.Native.Nat.{_-_}
+use lib.ListN.{take}
 use borrow.Author.Needs.{needs}
+use Rattle.reply.proofs.Taking.{not-read, one-refused, one-read}
+use Rattle.reply.specs.Read.{took, given, Reads}
+use Rattle.command.specs.declared.Kind.{Kind}
+use Rattle.changes.specs.Changes.{replaced, withAnalog}
+use Rattle.table.specs.Table.{members}
+use Rattle.infos.specs.Nothing.{noMaker}
+use Rattle.infos.specs.Took.{flagged}
+use Rattle.record.specs.Infos.{analogInfo}
+use Rattle.analog_reader.specs.Nothing.{noAnalog}
+use Rattle.hex.specs.Hex.{unhexes}
 use Rattle.reply.proofs.read_analog.Statement.{statement}
 use Rattle.reply.proofs.read_analog.Tie as tie
-use Rattle.reply.proofs.read_analog.Reads as reads
-use Rattle.reply.proofs.read_analog.Lts as lts
-use Rattle.changes.proofs.with_analog.Reads as with-analog-reads
-use Rattle.infos.proofs.take_analog.Reads as take-analog-reads
-use Rattle.reply.proofs.not_read.Reads as not-read-reads
-use Rattle.reply.proofs.was_read.Reads as was-read-reads
 
--- src/lib.rt:137:9
 take-analog-requires : tie.Need-take-analog-requires
 take-analog-requires c κs = search needs
 
--- src/lib.rt:140:24
 enum-known-taken : tie.Need-enum-known-taken
 enum-known-taken c = search needs
 
--- src/lib.rt:140:32
 not-read-requires : tie.Need-not-read-requires
 not-read-requires c κs = search needs
 
--- src/lib.rt:141:22
 enum-known-taken-2 : tie.Need-enum-known-taken-2
 enum-known-taken-2 c = search needs
 
--- src/lib.rt:143:17
 with-analog-requires : tie.Need-with-analog-requires
 with-analog-requires c κs = search needs
 
--- src/lib.rt:144:13
 was-read-requires : tie.Need-was-read-requires
 was-read-requires c κs = search needs
 
--- src/lib.rt:134:1
 returns : tie.Need-returns
-returns c = ?
+unfolding took
+returns c = subst (Reads (given (c .before .before .before .before .before .before .args .ver) (members (c .before .before .before .before .before .before .args .table)) (took Kind.Analog (members (c .before .before .before .before .before .before .args .table)) (c .before .before .before .before .before .before .args .adr) (unhexes (c .before .before .before .before .before .before .args .info .now)))) (c .before .before .before .before .before .before .args .table)) (sym (c .not-read .ensures)) (one-refused noAnalog flagged (analogInfo (c .before .before .before .before .before .before .args .adr) .get (unhexes (c .before .before .before .before .before .before .args .info .now))) (c .before .before .before .before .take-analog .result .taken) (c .before .before .before .before .take-analog .result .analog) (c .before .before .before .before .take-analog .ensures) (c .before .before .before .before .before .before .args .ver) (c .before .before .before .before .before .before .args .table) (λ a. (noMaker, replaced (c .before .before .before .before .before .before .args .adr) (withAnalog a) (members (c .before .before .before .before .before .before .args .table)))) (c .before .before .taken .given .0 .0) (c .before .before .taken .given .1))
 
--- src/lib.rt:134:1
 returns-2 : tie.Need-returns-2
-returns-2 c = ?
+unfolding took
+returns-2 c = subst (Reads (given (c .before .before .before .before .before .before .before .before .args .ver) (members (c .before .before .before .before .before .before .before .before .args .table)) (took Kind.Analog (members (c .before .before .before .before .before .before .before .before .args .table)) (c .before .before .before .before .before .before .before .before .args .adr) (unhexes (c .before .before .before .before .before .before .before .before .args .info .now)))) (c .before .before .before .before .before .before .before .before .args .table)) (sym (c .was-read .ensures)) (one-read noAnalog flagged (analogInfo (c .before .before .before .before .before .before .before .before .args .adr) .get (unhexes (c .before .before .before .before .before .before .before .before .args .info .now))) (c .before .before .before .before .before .before .take-analog .result .taken) (c .before .before .before .before .before .before .take-analog .result .analog) (c .before .before .before .before .before .before .take-analog .ensures) (c .before .before .before .before .before .before .before .before .args .ver) (c .before .before .before .before .before .before .before .before .args .table) (λ a. (noMaker, replaced (c .before .before .before .before .before .before .before .before .args .adr) (withAnalog a) (members (c .before .before .before .before .before .before .before .before .args .table)))) (c .before .before .before .before .taken2 .given .0 .0) (c .before .before .before .before .taken2 .given .1) noMaker (c .before .with-analog .result) (λ i. (noMaker, c .before .with-analog .ensures .members-are i)) (c .before .with-analog .ensures .count))
 
 pub read-analog-spec : {M : Type 1} → statement M
 read-analog-spec =

@@ -1,57 +1,54 @@
+-- Refused, 22, or the parts are dealt out to the members that are on.
+use mathlib.Core.Path.{sym, _∙_, subst}
+use Prim.Native.Nat.{_-_}
+use lib.ListN.{take}
 use borrow.Author.Needs.{needs}
+use Rattle.reply.proofs.Taking.{not-read, analogs-few, all-refused, all-differ, all-read}
+use Rattle.reply.specs.Read.{took, given, Reads}
+use Rattle.command.specs.declared.Kind.{Kind}
+use Rattle.changes.specs.Changes.{withAnalog}
+use Rattle.table.specs.Table.{members}
+use Rattle.record.specs.Infos.{analogGroup}
+use Rattle.analog_reader.specs.Nothing.{noAnalog}
+use Rattle.hex.specs.Hex.{unhexes}
 use Rattle.reply.proofs.read_analog_group.Statement.{statement}
 use Rattle.reply.proofs.read_analog_group.Tie as tie
-use Rattle.reply.proofs.read_analog_group.Reads as reads
-use Rattle.reply.proofs.read_analog_group.Lts as lts
-use Rattle.changes.proofs.deal_analogs.Reads as deal-analogs-reads
-use Rattle.group_infos.proofs.take_analog_group.Reads as take-analog-group-reads
-use Rattle.reply.proofs.not_read.Reads as not-read-reads
-use Rattle.reply.proofs.was_read.Reads as was-read-reads
-use Rattle.table.proofs.count_on.Reads as count-on-reads
 
--- src/lib.rt:213:9
 take-analog-group-requires : tie.Need-take-analog-group-requires
 take-analog-group-requires c κs = search needs
 
--- src/lib.rt:216:24
 enum-known-taken : tie.Need-enum-known-taken
 enum-known-taken c = search needs
 
--- src/lib.rt:216:32
 not-read-requires : tie.Need-not-read-requires
 not-read-requires c κs = search needs
 
--- src/lib.rt:217:22
 enum-known-taken-2 : tie.Need-enum-known-taken-2
 enum-known-taken-2 c = search needs
 
--- src/lib.rt:218:31
 count-on-requires : tie.Need-count-on-requires
 count-on-requires c κs = search needs
 
--- src/lib.rt:219:17
 not-read-requires-2 : tie.Need-not-read-requires-2
 not-read-requires-2 c κs = search needs
 
--- src/lib.rt:219:17
 returns : tie.Need-returns
-returns c = ?
+unfolding took
+returns c = subst (Reads (given (c .before .before .before .before .before .before .before .before .before .args .ver) (members (c .before .before .before .before .before .before .before .before .before .args .table)) (took Kind.AnalogGroup (members (c .before .before .before .before .before .before .before .before .before .args .table)) (c .before .before .before .before .before .before .before .before .before .args .adr) (unhexes (c .before .before .before .before .before .before .before .before .before .args .info .now)))) (c .before .before .before .before .before .before .before .before .before .args .table)) (sym (c .not-read2 .ensures)) (all-differ noAnalog withAnalog (analogGroup .get (unhexes (c .before .before .before .before .before .before .before .before .before .args .info .now))) (analogs-few (unhexes (c .before .before .before .before .before .before .before .before .before .args .info .now))) (c .before .before .before .before .before .before .before .take-analog-group .result .taken) (c .before .before .before .before .before .before .before .take-analog-group .result .count) (c .before .before .before .before .before .before .before .take-analog-group .result .analogs) (c .before .before .before .before .before .before .before .take-analog-group .ensures) (c .before .before .before .before .before .before .before .before .before .args .ver) (c .before .before .before .before .before .before .before .before .before .args .table) (c .before .before .before .before .before .taken2 .given .0 .0) (c .before .before .before .before .before .taken2 .given .1) (λ e. c .before .if1 .taken (e ∙ sym (c .before .before .before .count-on .ensures))))
 
--- src/lib.rt:222:17
 deal-analogs-requires : tie.Need-deal-analogs-requires
 deal-analogs-requires c κs = search needs
 
--- src/lib.rt:223:13
 was-read-requires : tie.Need-was-read-requires
 was-read-requires c κs = search needs
 
--- src/lib.rt:210:1
 returns-2 : tie.Need-returns-2
-returns-2 c = ?
+unfolding took
+returns-2 c = subst (Reads (given (c .before .before .before .before .before .before .args .ver) (members (c .before .before .before .before .before .before .args .table)) (took Kind.AnalogGroup (members (c .before .before .before .before .before .before .args .table)) (c .before .before .before .before .before .before .args .adr) (unhexes (c .before .before .before .before .before .before .args .info .now)))) (c .before .before .before .before .before .before .args .table)) (sym (c .not-read .ensures)) (all-refused noAnalog withAnalog (analogGroup .get (unhexes (c .before .before .before .before .before .before .args .info .now))) (analogs-few (unhexes (c .before .before .before .before .before .before .args .info .now))) (c .before .before .before .before .take-analog-group .result .taken) (c .before .before .before .before .take-analog-group .result .count) (c .before .before .before .before .take-analog-group .result .analogs) (c .before .before .before .before .take-analog-group .ensures) (c .before .before .before .before .before .before .args .ver) (c .before .before .before .before .before .before .args .table) (c .before .before .taken .given .0 .0) (c .before .before .taken .given .1))
 
--- src/lib.rt:210:1
 returns-3 : tie.Need-returns-3
-returns-3 c = ?
+unfolding took
+returns-3 c = subst (Reads (given (c .before .before .before .before .before .before .before .before .before .before .before .args .ver) (members (c .before .before .before .before .before .before .before .before .before .before .before .args .table)) (took Kind.AnalogGroup (members (c .before .before .before .before .before .before .before .before .before .before .before .args .table)) (c .before .before .before .before .before .before .before .before .before .before .before .args .adr) (unhexes (c .before .before .before .before .before .before .before .before .before .before .before .args .info .now)))) (c .before .before .before .before .before .before .before .before .before .before .before .args .table)) (sym (c .was-read .ensures)) (all-read noAnalog withAnalog (analogGroup .get (unhexes (c .before .before .before .before .before .before .before .before .before .before .before .args .info .now))) (analogs-few (unhexes (c .before .before .before .before .before .before .before .before .before .before .before .args .info .now))) (c .before .before .before .before .before .before .before .before .before .take-analog-group .result .taken) (c .before .before .before .before .before .before .before .before .before .take-analog-group .result .count) (c .before .before .before .before .before .before .before .before .before .take-analog-group .result .analogs) (c .before .before .before .before .before .before .before .before .before .take-analog-group .ensures) (c .before .before .before .before .before .before .before .before .before .before .before .args .ver) (c .before .before .before .before .before .before .before .before .before .before .before .args .table) (c .before .before .before .before .before .before .before .taken2 .given .0 .0) (c .before .before .before .before .before .before .before .taken2 .given .1) (c .before .before .before .if1 .left ∙ c .before .before .before .before .before .count-on .ensures) (c .before .deal-analogs .result) (c .before .deal-analogs .ensures))
 
 pub read-analog-group-spec : {M : Type 1} → statement M
 read-analog-group-spec =

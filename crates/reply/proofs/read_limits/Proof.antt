@@ -1,44 +1,46 @@
+-- Refused, or the part is stored in its record.
+use mathlib.Core.Path.{sym, subst}
+use Prim.Native.Nat.{_-_}
+use lib.ListN.{take}
 use borrow.Author.Needs.{needs}
+use Rattle.reply.proofs.Taking.{not-read, one-refused, one-read}
+use Rattle.reply.specs.Read.{took, given, Reads}
+use Rattle.command.specs.declared.Kind.{Kind}
+use Rattle.changes.specs.Changes.{replaced, withLimits}
+use Rattle.table.specs.Table.{members}
+use Rattle.infos.specs.Nothing.{noMaker}
+use Rattle.infos.specs.Took.{flagged, unflagged}
+use Rattle.record.specs.Infos.{limitsInfo}
+use Rattle.readers.specs.Nothing.{noLimits}
+use Rattle.hex.specs.Hex.{unhexes}
 use Rattle.reply.proofs.read_limits.Statement.{statement}
 use Rattle.reply.proofs.read_limits.Tie as tie
-use Rattle.reply.proofs.read_limits.Reads as reads
-use Rattle.reply.proofs.read_limits.Lts as lts
-use Rattle.changes.proofs.with_limits.Reads as with-limits-reads
-use Rattle.infos.proofs.take_limits.Reads as take-limits-reads
-use Rattle.reply.proofs.not_read.Reads as not-read-reads
-use Rattle.reply.proofs.was_read.Reads as was-read-reads
 
--- src/lib.rt:167:9
 take-limits-requires : tie.Need-take-limits-requires
 take-limits-requires c κs = search needs
 
--- src/lib.rt:170:24
 enum-known-taken : tie.Need-enum-known-taken
 enum-known-taken c = search needs
 
--- src/lib.rt:170:32
 not-read-requires : tie.Need-not-read-requires
 not-read-requires c κs = search needs
 
--- src/lib.rt:171:22
 enum-known-taken-2 : tie.Need-enum-known-taken-2
 enum-known-taken-2 c = search needs
 
--- src/lib.rt:173:17
 with-limits-requires : tie.Need-with-limits-requires
 with-limits-requires c κs = search needs
 
--- src/lib.rt:174:13
 was-read-requires : tie.Need-was-read-requires
 was-read-requires c κs = search needs
 
--- src/lib.rt:164:1
 returns : tie.Need-returns
-returns c = ?
+unfolding took
+returns c = subst (Reads (given (c .before .before .before .before .before .before .args .ver) (members (c .before .before .before .before .before .before .args .table)) (took Kind.Limits (members (c .before .before .before .before .before .before .args .table)) (c .before .before .before .before .before .before .args .adr) (unhexes (c .before .before .before .before .before .before .args .info .now)))) (c .before .before .before .before .before .before .args .table)) (sym (c .not-read .ensures)) (one-refused noLimits unflagged (limitsInfo (c .before .before .before .before .before .before .args .adr) .get (unhexes (c .before .before .before .before .before .before .args .info .now))) (c .before .before .before .before .take-limits .result .taken) (c .before .before .before .before .take-limits .result .limits) (c .before .before .before .before .take-limits .ensures) (c .before .before .before .before .before .before .args .ver) (c .before .before .before .before .before .before .args .table) (λ a. (noMaker, replaced (c .before .before .before .before .before .before .args .adr) (withLimits a) (members (c .before .before .before .before .before .before .args .table)))) (c .before .before .taken .given .0 .0) (c .before .before .taken .given .1))
 
--- src/lib.rt:164:1
 returns-2 : tie.Need-returns-2
-returns-2 c = ?
+unfolding took
+returns-2 c = subst (Reads (given (c .before .before .before .before .before .before .before .before .args .ver) (members (c .before .before .before .before .before .before .before .before .args .table)) (took Kind.Limits (members (c .before .before .before .before .before .before .before .before .args .table)) (c .before .before .before .before .before .before .before .before .args .adr) (unhexes (c .before .before .before .before .before .before .before .before .args .info .now)))) (c .before .before .before .before .before .before .before .before .args .table)) (sym (c .was-read .ensures)) (one-read noLimits unflagged (limitsInfo (c .before .before .before .before .before .before .before .before .args .adr) .get (unhexes (c .before .before .before .before .before .before .before .before .args .info .now))) (c .before .before .before .before .before .before .take-limits .result .taken) (c .before .before .before .before .before .before .take-limits .result .limits) (c .before .before .before .before .before .before .take-limits .ensures) (c .before .before .before .before .before .before .before .before .args .ver) (c .before .before .before .before .before .before .before .before .args .table) (λ a. (noMaker, replaced (c .before .before .before .before .before .before .before .before .args .adr) (withLimits a) (members (c .before .before .before .before .before .before .before .before .args .table)))) (c .before .before .before .before .taken2 .given .0 .0) (c .before .before .before .before .taken2 .given .1) noMaker (c .before .with-limits .result) (λ i. (noMaker, c .before .with-limits .ensures .members-are i)) (c .before .with-limits .ensures .count))
 
 pub read-limits-spec : {M : Type 1} → statement M
 read-limits-spec =

@@ -1,34 +1,38 @@
+-- Refused, or the 32 bytes are handed back.
+use mathlib.Core.Path.{refl, sym, subst}
+use Prim.Native.Nat.{_-_}
+use lib.ListN.{take}
 use borrow.Author.Needs.{needs}
+use Rattle.reply.proofs.Taking.{not-read, one-refused, one-read}
+use Rattle.reply.specs.Read.{took, given, Reads}
+use Rattle.command.specs.declared.Kind.{Kind}
+use Rattle.table.specs.Table.{members}
+use Rattle.infos.specs.Nothing.{noMaker}
+use Rattle.infos.specs.Took.{bare}
+use Rattle.record.specs.Texts.{maker}
+use Rattle.hex.specs.Hex.{unhexes}
 use Rattle.reply.proofs.read_maker.Statement.{statement}
 use Rattle.reply.proofs.read_maker.Tie as tie
-use Rattle.reply.proofs.read_maker.Reads as reads
-use Rattle.reply.proofs.read_maker.Lts as lts
-use Rattle.infos.proofs.take_maker.Reads as take-maker-reads
-use Rattle.reply.proofs.not_read.Reads as not-read-reads
 
--- src/lib.rt:261:9
 take-maker-requires : tie.Need-take-maker-requires
 take-maker-requires c κs = search needs
 
--- src/lib.rt:264:24
 enum-known-taken : tie.Need-enum-known-taken
 enum-known-taken c = search needs
 
--- src/lib.rt:264:32
 not-read-requires : tie.Need-not-read-requires
 not-read-requires c κs = search needs
 
--- src/lib.rt:265:22
 enum-known-taken-2 : tie.Need-enum-known-taken-2
 enum-known-taken-2 c = search needs
 
--- src/lib.rt:258:1
 returns : tie.Need-returns
-returns c = ?
+unfolding took
+returns c = subst (Reads (given (c .before .before .before .before .before .before .args .ver) (members (c .before .before .before .before .before .before .args .table)) (took Kind.Maker (members (c .before .before .before .before .before .before .args .table)) (c .before .before .before .before .before .before .args .adr) (unhexes (c .before .before .before .before .before .before .args .info .now)))) (c .before .before .before .before .before .before .args .table)) (sym (c .not-read .ensures)) (one-refused noMaker bare (maker .get (unhexes (c .before .before .before .before .before .before .args .info .now))) (c .before .before .before .before .take-maker .result .taken) (c .before .before .before .before .take-maker .result .maker) (c .before .before .before .before .take-maker .ensures) (c .before .before .before .before .before .before .args .ver) (c .before .before .before .before .before .before .args .table) (λ a. (a, (members (c .before .before .before .before .before .before .args .table)))) (c .before .before .taken .given .0 .0) (c .before .before .taken .given .1))
 
--- src/lib.rt:258:1
 returns-2 : tie.Need-returns-2
-returns-2 c = ?
+unfolding took
+returns-2 c = one-read noMaker bare (maker .get (unhexes (c .before .before .before .before .before .before .args .info .now))) (c .before .before .before .before .take-maker .result .taken) (c .before .before .before .before .take-maker .result .maker) (c .before .before .before .before .take-maker .ensures) (c .before .before .before .before .before .before .args .ver) (c .before .before .before .before .before .before .args .table) (λ a. (a, (members (c .before .before .before .before .before .before .args .table)))) (c .before .before .taken2 .given .0 .0) (c .before .before .taken2 .given .1) (c .before .before .before .before .take-maker .result .maker) (c .before .before .before .before .before .before .args .table) refl refl
 
 pub read-maker-spec : {M : Type 1} → statement M
 read-maker-spec =

@@ -1,47 +1,48 @@
+-- Another code changes nothing; with 00H the data are read.
+use mathlib.Core.Path.{_≡_, refl, sym, subst}
+use Prim.Native.Nat.{_+_, _-_}
+use native.Mathlib.Omega.{arith}
+use lib.ListN.{take}
+use borrow.Author.Tests.{eq-eqb}
 use borrow.Author.Needs.{needs}
+use Rattle.reply.proofs.Ways.{code-other, info-there}
+use Rattle.reply.specs.Read.{byCode, Reads}
+use Rattle.command.specs.Heard.{wordsOf, words}
+use Rattle.table.specs.Table.{members}
+use Rattle.frame.specs.Frame.{infoAt}
+use Rattle.hex.specs.Hex.{unhexes}
 use Rattle.reply.proofs.read_open.Statement.{statement}
 use Rattle.reply.proofs.read_open.Tie as tie
-use Rattle.reply.proofs.read_open.Reads as reads
-use Rattle.reply.proofs.read_open.Lts as lts
-use Rattle.command.proofs.form_of.Reads as form-of-reads
-use Rattle.reply.proofs.read_data.Reads as read-data-reads
-use Rattle.reply.proofs.was_read.Reads as was-read-reads
 
--- src/lib.rt:303:9
 was-read-requires : tie.Need-was-read-requires
 was-read-requires c κs = search needs
 
--- src/lib.rt:303:9
 returns : tie.Need-returns
-returns c = ?
+returns c = subst (Reads (byCode (members (c .before .before .before .before .args .table)) (c .before .before .before .before .args .question) (wordsOf (c .before .before .before .before .args .heard)) (unhexes (infoAt (c .before .before .before .before .args .heard .lenid) (c .before .before .before .before .args .stretch .now)))) (c .before .before .before .before .args .table)) (sym (c .was-read .ensures)) (record { is = code-other (members (c .before .before .before .before .args .table)) (c .before .before .before .before .args .question) (wordsOf (c .before .before .before .before .args .heard)) (unhexes (infoAt (c .before .before .before .before .args .heard .lenid) (c .before .before .before .before .args .stretch .now))) (c .before .if1 .taken); count = refl })
 
--- src/lib.rt:305:15
 add-end : tie.Need-add-end
-add-end c = ?
+add-end c = omega (arith, info-there (c .before .before .before .before .args .stretch .now) (wordsOf (c .before .before .before .before .args .heard)) (c .before .before .before .before .pre .0) (members (c .before .before .before .before .args .table)) (c .before .before .before .before .args .question) (c .before .before .before .before .pre .1) .1)
 
--- src/lib.rt:306:9
 form-of-requires : tie.Need-form-of-requires
 form-of-requires c κs = search needs
 
--- src/lib.rt:307:54
 sub-read-data : tie.Need-sub-read-data
 sub-read-data c = search needs
 
--- src/lib.rt:307:54
 part-read-data-start : tie.Need-part-read-data-start
 part-read-data-start c = search needs
 
--- src/lib.rt:307:54
 part-read-data-end : tie.Need-part-read-data-end
-part-read-data-end c = ?
+part-read-data-end c = omega (arith, info-there (c .before .before .before .before .before .args .stretch .now) (wordsOf (c .before .before .before .before .before .args .heard)) (c .before .before .before .before .before .pre .0) (members (c .before .before .before .before .before .args .table)) (c .before .before .before .before .before .args .question) (c .before .before .before .before .before .pre .1) .0)
 
--- src/lib.rt:307:5
 read-data-requires : tie.Need-read-data-requires
 read-data-requires c κs = search needs
 
--- src/lib.rt:296:1
 returns-2 : tie.Need-returns-2
-returns-2 c = ?
+returns-2 c =
+    let n : 12 + c .before .before .before .before .before .before .before .args .heard .lenid - 12 ≡ c .before .before .before .before .before .before .before .args .heard .lenid = omega arith in
+    let r = rw (n, c .before .before .form-of .ensures) at (c .read-data .ensures) in
+    rw (eq-eqb (c .before .before .before .before .before .before .before .args .heard .header .cid2) 0 (c .before .before .before .before .if1 .left)) r
 
 pub read-open-spec : {M : Type 1} → statement M
 read-open-spec =

@@ -1,44 +1,46 @@
+-- Refused, or the part is stored in its record.
+use mathlib.Core.Path.{sym, subst}
+use Prim.Native.Nat.{_-_}
+use lib.ListN.{take}
 use borrow.Author.Needs.{needs}
+use Rattle.reply.proofs.Taking.{not-read, one-refused, one-read}
+use Rattle.reply.specs.Read.{took, given, Reads}
+use Rattle.command.specs.declared.Kind.{Kind}
+use Rattle.changes.specs.Changes.{replaced, withSerial}
+use Rattle.table.specs.Table.{members}
+use Rattle.infos.specs.Nothing.{noMaker}
+use Rattle.infos.specs.Took.{flagged, unflagged}
+use Rattle.record.specs.Infos.{serialInfo}
+use Rattle.readers.specs.Nothing.{noSerial}
+use Rattle.hex.specs.Hex.{unhexes}
 use Rattle.reply.proofs.read_serial.Statement.{statement}
 use Rattle.reply.proofs.read_serial.Tie as tie
-use Rattle.reply.proofs.read_serial.Reads as reads
-use Rattle.reply.proofs.read_serial.Lts as lts
-use Rattle.changes.proofs.with_serial.Reads as with-serial-reads
-use Rattle.infos.proofs.take_serial.Reads as take-serial-reads
-use Rattle.reply.proofs.not_read.Reads as not-read-reads
-use Rattle.reply.proofs.was_read.Reads as was-read-reads
 
--- src/lib.rt:182:9
 take-serial-requires : tie.Need-take-serial-requires
 take-serial-requires c κs = search needs
 
--- src/lib.rt:185:24
 enum-known-taken : tie.Need-enum-known-taken
 enum-known-taken c = search needs
 
--- src/lib.rt:185:32
 not-read-requires : tie.Need-not-read-requires
 not-read-requires c κs = search needs
 
--- src/lib.rt:186:22
 enum-known-taken-2 : tie.Need-enum-known-taken-2
 enum-known-taken-2 c = search needs
 
--- src/lib.rt:188:17
 with-serial-requires : tie.Need-with-serial-requires
 with-serial-requires c κs = search needs
 
--- src/lib.rt:189:13
 was-read-requires : tie.Need-was-read-requires
 was-read-requires c κs = search needs
 
--- src/lib.rt:179:1
 returns : tie.Need-returns
-returns c = ?
+unfolding took
+returns c = subst (Reads (given (c .before .before .before .before .before .before .args .ver) (members (c .before .before .before .before .before .before .args .table)) (took Kind.Serial (members (c .before .before .before .before .before .before .args .table)) (c .before .before .before .before .before .before .args .adr) (unhexes (c .before .before .before .before .before .before .args .info .now)))) (c .before .before .before .before .before .before .args .table)) (sym (c .not-read .ensures)) (one-refused noSerial unflagged (serialInfo (c .before .before .before .before .before .before .args .adr) .get (unhexes (c .before .before .before .before .before .before .args .info .now))) (c .before .before .before .before .take-serial .result .taken) (c .before .before .before .before .take-serial .result .serial) (c .before .before .before .before .take-serial .ensures) (c .before .before .before .before .before .before .args .ver) (c .before .before .before .before .before .before .args .table) (λ a. (noMaker, replaced (c .before .before .before .before .before .before .args .adr) (withSerial a) (members (c .before .before .before .before .before .before .args .table)))) (c .before .before .taken .given .0 .0) (c .before .before .taken .given .1))
 
--- src/lib.rt:179:1
 returns-2 : tie.Need-returns-2
-returns-2 c = ?
+unfolding took
+returns-2 c = subst (Reads (given (c .before .before .before .before .before .before .before .before .args .ver) (members (c .before .before .before .before .before .before .before .before .args .table)) (took Kind.Serial (members (c .before .before .before .before .before .before .before .before .args .table)) (c .before .before .before .before .before .before .before .before .args .adr) (unhexes (c .before .before .before .before .before .before .before .before .args .info .now)))) (c .before .before .before .before .before .before .before .before .args .table)) (sym (c .was-read .ensures)) (one-read noSerial unflagged (serialInfo (c .before .before .before .before .before .before .before .before .args .adr) .get (unhexes (c .before .before .before .before .before .before .before .before .args .info .now))) (c .before .before .before .before .before .before .take-serial .result .taken) (c .before .before .before .before .before .before .take-serial .result .serial) (c .before .before .before .before .before .before .take-serial .ensures) (c .before .before .before .before .before .before .before .before .args .ver) (c .before .before .before .before .before .before .before .before .args .table) (λ a. (noMaker, replaced (c .before .before .before .before .before .before .before .before .args .adr) (withSerial a) (members (c .before .before .before .before .before .before .before .before .args .table)))) (c .before .before .before .before .taken2 .given .0 .0) (c .before .before .before .before .taken2 .given .1) noMaker (c .before .with-serial .result) (λ i. (noMaker, c .before .with-serial .ensures .members-are i)) (c .before .with-serial .ensures .count))
 
 pub read-serial-spec : {M : Type 1} → statement M
 read-serial-spec =

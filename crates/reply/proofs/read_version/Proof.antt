@@ -1,44 +1,46 @@
+-- Refused, or the part is stored in its record.
+use mathlib.Core.Path.{sym, subst}
+use Prim.Native.Nat.{_-_}
+use lib.ListN.{take}
 use borrow.Author.Needs.{needs}
+use Rattle.reply.proofs.Taking.{not-read, one-refused, one-read}
+use Rattle.reply.specs.Read.{took, given, Reads}
+use Rattle.command.specs.declared.Kind.{Kind}
+use Rattle.changes.specs.Changes.{replaced, withVersion}
+use Rattle.table.specs.Table.{members}
+use Rattle.infos.specs.Nothing.{noMaker}
+use Rattle.infos.specs.Took.{flagged, unflagged}
+use Rattle.record.specs.Infos.{versionInfo}
+use Rattle.readers.specs.Nothing.{noVersion}
+use Rattle.hex.specs.Hex.{unhexes}
 use Rattle.reply.proofs.read_version.Statement.{statement}
 use Rattle.reply.proofs.read_version.Tie as tie
-use Rattle.reply.proofs.read_version.Reads as reads
-use Rattle.reply.proofs.read_version.Lts as lts
-use Rattle.changes.proofs.with_version.Reads as with-version-reads
-use Rattle.infos.proofs.take_version.Reads as take-version-reads
-use Rattle.reply.proofs.not_read.Reads as not-read-reads
-use Rattle.reply.proofs.was_read.Reads as was-read-reads
 
--- src/lib.rt:197:9
 take-version-requires : tie.Need-take-version-requires
 take-version-requires c κs = search needs
 
--- src/lib.rt:200:24
 enum-known-taken : tie.Need-enum-known-taken
 enum-known-taken c = search needs
 
--- src/lib.rt:200:32
 not-read-requires : tie.Need-not-read-requires
 not-read-requires c κs = search needs
 
--- src/lib.rt:201:22
 enum-known-taken-2 : tie.Need-enum-known-taken-2
 enum-known-taken-2 c = search needs
 
--- src/lib.rt:203:17
 with-version-requires : tie.Need-with-version-requires
 with-version-requires c κs = search needs
 
--- src/lib.rt:204:13
 was-read-requires : tie.Need-was-read-requires
 was-read-requires c κs = search needs
 
--- src/lib.rt:194:1
 returns : tie.Need-returns
-returns c = ?
+unfolding took
+returns c = subst (Reads (given (c .before .before .before .before .before .before .args .ver) (members (c .before .before .before .before .before .before .args .table)) (took Kind.Version (members (c .before .before .before .before .before .before .args .table)) (c .before .before .before .before .before .before .args .adr) (unhexes (c .before .before .before .before .before .before .args .info .now)))) (c .before .before .before .before .before .before .args .table)) (sym (c .not-read .ensures)) (one-refused noVersion unflagged (versionInfo (c .before .before .before .before .before .before .args .adr) .get (unhexes (c .before .before .before .before .before .before .args .info .now))) (c .before .before .before .before .take-version .result .taken) (c .before .before .before .before .take-version .result .version) (c .before .before .before .before .take-version .ensures) (c .before .before .before .before .before .before .args .ver) (c .before .before .before .before .before .before .args .table) (λ a. (noMaker, replaced (c .before .before .before .before .before .before .args .adr) (withVersion a) (members (c .before .before .before .before .before .before .args .table)))) (c .before .before .taken .given .0 .0) (c .before .before .taken .given .1))
 
--- src/lib.rt:194:1
 returns-2 : tie.Need-returns-2
-returns-2 c = ?
+unfolding took
+returns-2 c = subst (Reads (given (c .before .before .before .before .before .before .before .before .args .ver) (members (c .before .before .before .before .before .before .before .before .args .table)) (took Kind.Version (members (c .before .before .before .before .before .before .before .before .args .table)) (c .before .before .before .before .before .before .before .before .args .adr) (unhexes (c .before .before .before .before .before .before .before .before .args .info .now)))) (c .before .before .before .before .before .before .before .before .args .table)) (sym (c .was-read .ensures)) (one-read noVersion unflagged (versionInfo (c .before .before .before .before .before .before .before .before .args .adr) .get (unhexes (c .before .before .before .before .before .before .before .before .args .info .now))) (c .before .before .before .before .before .before .take-version .result .taken) (c .before .before .before .before .before .before .take-version .result .version) (c .before .before .before .before .before .before .take-version .ensures) (c .before .before .before .before .before .before .before .before .args .ver) (c .before .before .before .before .before .before .before .before .args .table) (λ a. (noMaker, replaced (c .before .before .before .before .before .before .before .before .args .adr) (withVersion a) (members (c .before .before .before .before .before .before .before .before .args .table)))) (c .before .before .before .before .taken2 .given .0 .0) (c .before .before .before .before .taken2 .given .1) noMaker (c .before .with-version .result) (λ i. (noMaker, c .before .with-version .ensures .members-are i)) (c .before .with-version .ensures .count))
 
 pub read-version-spec : {M : Type 1} → statement M
 read-version-spec =
