@@ -1,0 +1,53 @@
+-- From what the inner functions say to what C sees of it.
+use mathlib.Core.Path.{_≡_, sym, ap, _∙_}
+use mathlib.Core.Bool.{cond}
+use mathlib.Core.List.{List}
+use Prim.Native.Nat.{ℕ}
+use lib.Dec.{ltb}
+use Rattle.buffer.specs.declared.Written.{Written}
+use Rattle.buffer.specs.Writing as Writing
+use Rattle.receiver.specs.declared.Receiver.{Receiver}
+use Rattle.receiver.specs.declared.Stepped.{Stepped}
+use Rattle.receiver.specs.declared.Ran.{Ran}
+use Rattle.receiver.specs.Step.{After, step, paper, Steps}
+use Rattle.receiver.specs.Run.{Run, run, Runs}
+use Rattle.standin.specs.declared.Replied.{Replied}
+use Rattle.standin.specs.Answer as Answer
+use Rattle.hanuzak.specs.declared.FlatWritten.{FlatWritten}
+use Rattle.hanuzak.specs.declared.FlatEvent.{FlatEvent}
+use Rattle.hanuzak.specs.declared.FlatReceiver.{FlatReceiver}
+use Rattle.hanuzak.specs.declared.FlatStepped.{FlatStepped}
+use Rattle.hanuzak.specs.declared.FlatRan.{FlatRan}
+use Rattle.hanuzak.specs.declared.FlatAnswered.{FlatAnswered}
+use Rattle.hanuzak.specs.declared.Served.{Served}
+use Rattle.hanuzak.specs.Flat.{writtenOf, FlatWrites, eventOf, flatReceiver, receiverOf, steppedOf, ranOf, answeredOf}
+use Rattle.hanuzak.specs.Answering.{Serves}
+
+pub flat-writes : (left : Writing.Left) (w : Written) (out : List ℕ) (r : FlatWritten) → Writing.Writes left w out → r ≡ writtenOf (Writing.paper w) → FlatWrites left r out
+flat-writes left w out r p e = (e ∙ ap (λ (l : Writing.Left). writtenOf (l .outcome)) p, ap (λ (l : Writing.Left). l .out) p)
+
+module _ (flat : FlatReceiver) (r : Receiver) (is : r ≡ receiverOf flat) (store store′ : List ℕ) (n : FlatReceiver) (v : FlatEvent) where
+  pub flat-steps : (b : ℕ) (a : Stepped) → Steps r store b a store′ → n ≡ flatReceiver (a .next) → v ≡ eventOf (paper (a .event))
+      → (record { next = n; event = v } ≡ steppedOf (step (receiverOf flat) store b)) × (store′ ≡ step (receiverOf flat) store b .store)
+  flat-steps b a e en ev =
+      let whole = e ∙ ap (λ (z : Receiver). step z store b) is in
+      let first : FlatReceiver → FlatStepped = λ (k : FlatReceiver). record { next = k; event = v } in
+      let second : FlatEvent → FlatStepped = λ (k : FlatEvent). record { next = flatReceiver (a .next); event = k } in
+      (ap first en ∙ ap second ev ∙ ap steppedOf whole, ap (λ (k : After). k .store) whole)
+
+  pub flat-runs : (piece : List ℕ) (a : Ran) → Runs r store piece a store′ → n ≡ flatReceiver (a .next) → v ≡ eventOf (paper (a .event))
+      → (record { next = n; event = v; taken = a .taken } ≡ ranOf (run (receiverOf flat) store piece)) × (store′ ≡ run (receiverOf flat) store piece .store)
+  flat-runs piece a e en ev =
+      let whole = e ∙ ap (λ (z : Receiver). run z store piece) is in
+      let first : FlatReceiver → FlatRan = λ (k : FlatReceiver). record { next = k; event = v; taken = a .taken } in
+      let second : FlatEvent → FlatRan = λ (k : FlatEvent). record { next = flatReceiver (a .next); event = k; taken = a .taken } in
+      (ap first en ∙ ap second ev ∙ ap ranOf whole, ap (λ (k : Run). k .store) whole)
+
+-- the place that goes off, or the count
+pub flat-serves : (left : Answer.Left) (count : ℕ) (a : Replied) (out : List ℕ) (f : FlatAnswered) (place : ℕ) → Answer.Answers left a out → f ≡ answeredOf (Answer.paper (a .answered))
+    → place ≡ cond (ltb (a .off) 12) (a .off) count → Serves left count (record { answered = f; off = place }) out
+flat-serves left count a out f place e ef ep = record {
+  answered = ef ∙ ap (λ (l : Answer.Left). answeredOf (l .outcome)) e;
+  off = ep ∙ ap (λ (l : Answer.Left). cond (ltb (l .off) 12) (l .off) count) e;
+  out = ap (λ (l : Answer.Left). l .out) e;
+}

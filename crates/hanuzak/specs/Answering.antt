@@ -1,0 +1,39 @@
+-- The stand-in over a lent table: what it answers, its buffer then, and the table then.
+use mathlib.Core.Path.{_≡_}
+use mathlib.Core.Bool.{cond}
+use mathlib.Core.List.{List}
+use Prim.Native.Nat.{ℕ}
+use lib.Dec.{ltb}
+use Rattle.record.specs.declared.Module.{Module}
+use Rattle.table.specs.declared.Station.{Station}
+use Rattle.table.specs.Rule.{rule}
+use Rattle.standin.specs.Answer.{Left, answer, offAt}
+use Rattle.hanuzak.specs.declared.FlatAnswered.{FlatAnswered}
+use Rattle.hanuzak.specs.declared.Served.{Served}
+use Rattle.hanuzak.specs.Flat.{answeredOf}
+
+-- the answer, the table and the buffer
+pub record Then : Type 0 where
+  pub answered : FlatAnswered
+  pub table : List Module
+  pub out : List ℕ
+
+-- the record that goes off does; place 12 is none's
+unfoldable pub tableThen : ℕ → List Module → List Module
+tableThen off ms = cond (ltb off 12) (offAt off ms) ms
+
+abbrev pub thenOf : List Module → Left → Then
+thenOf ms left = record { answered = answeredOf (left .outcome); table = tableThen (left .off) ms; out = left .out }
+
+unfoldable pub answering : Station → List Module → List ℕ → List ℕ → Then
+answering station ms stretch out = thenOf ms (answer (rule ms) station ms stretch out)
+
+-- the contract of the stand-in over a lent table
+abbrev pub Leaves : Then → FlatAnswered → List Module → List ℕ → Type 0
+Leaves left r table out = record { answered = r; table = table; out = out } ≡ left
+
+-- the same over a table by value with a count: the place of the record that goes off, or the count
+pub record Serves (left : Left) (count : ℕ) (r : Served) (out′ : List ℕ) : Type 0 where
+  pub answered : r .answered ≡ answeredOf (left .outcome)
+  pub off : r .off ≡ cond (ltb (left .off) 12) (left .off) count
+  pub out : out′ ≡ left .out
