@@ -126,7 +126,7 @@ spoken st ms w false true (Code code) out out′ n off e =
       (code, refl, (λ i. between (count i) (is i)) ∙ between-text (replyHeader st w code) (infoFor st ms w code) (drop (length text) out)),
     )
 
-module _ (st : Station) (bytes : OfBytes st) (t t′ : Table) (s out out′ : List ℕ) (r : Replied) (answered : Answers (answer (keeps t) st (members t) s out) r out′)
+module _ (st : Station) (bytes : OfBytes st) (t : Table) (s out out′ : List ℕ) (r : Replied) (answered : Answers (answer (keeps t) st (members t) s out) r out′)
     (n : ℕ) (replied : r .answered ≡ Reply n) where
   parts : (keeps t ≡ true)
       × ((code : ℕ) × (decide st (members t) (words s) ≡ Code code) × (between n out′ ≡ chars (replyHeader st (words s) code) (infoFor st (members t) (words s) code)))
@@ -143,12 +143,12 @@ module _ (st : Station) (bytes : OfBytes st) (t t′ : Table) (s out out′ : Li
       (p .1 .0, p .1 .1, subst (Encodes (replyHeader st (words s) (p .1 .0)) (infoFor st (members t) (words s) (p .1 .0))) (sym (p .1 .2)) e)
 
   -- No reply that nobody could send: the reader, asked the same over any table that keeps its rule and has the ADR, takes it
-  pub answer-is-read : keeps t′ ≡ true → (q : Question) → asks q ≡ true → hasMember (q .adr) (members t′) ≡ true → q .adr ≡ words s .header .adr
+  pub answer-is-read : (t′ : Table) → keeps t′ ≡ true → (q : Question) → asks q ≡ true → hasMember (q .adr) (members t′) ≡ true → q .adr ≡ words s .header .adr
       → formOf (q .cid2) (q .command) ≡ kindAsked (words s) → Alike (kindAsked (words s)) (members t) (members t′)
       → (code : ℕ) × (decide st (members t) (words s) ≡ Code code)
       × ((reading : Reading) → Reads (readReply (keeps t′) (members t′) q (between n out′)) t′ reading
       → leaves (paper (reading .outcome)) (reading .maker) (members (reading .table)) ≡ readBack (kindAsked (words s)) st code (q .adr) (members t) (members t′))
-  answer-is-read keeps′ q asked there same-adr same-form alike =
+  answer-is-read t′ keeps′ q asked there same-adr same-form alike =
       let p = parts in
       let code = p .1 .0 in
       let k = kindAsked (words s) in (

@@ -1,11 +1,12 @@
 -- Every reading leaves a table that keeps its rule: what a codec read can be encoded, so each kind of change is safe.
-use mathlib.Core.Path.{_≡_, refl}
+use mathlib.Core.Path.{_≡_, refl, ap, _∙_}
 use mathlib.Core.Bool.{Bool, true}
 use mathlib.Core.List.{List, [], _∷_}
 use Prim.Native.Nat.{ℕ, zero, suc, _<_}
 use lib.ListN.{length}
 use lib.Dec.{T, eqb}
 use mir.Facts.{and-yes}
+use borrow.Author.Tests.{le-leb}
 use Rattle.buffer.proofs.Lists.{by-cond}
 use Rattle.hex.specs.Hex.{Bytes, unhexes}
 use Rattle.hex.proofs.Laws.{bytes-unhexes}
@@ -22,16 +23,19 @@ use Rattle.record.specs.Texts.{serial, version, maker}
 use Rattle.record.specs.Infos.{command, analogInfo, alarmInfo, limitsInfo, serialInfo, versionInfo, some-analog, some-alarm, analogGroup, alarmGroup}
 use Rattle.infos.specs.Nothing.{nothing}
 use Rattle.rules.proofs.Rules.{is-true}
-use Rattle.table.specs.Table.{countOn}
-use Rattle.table.specs.Rule.{rule}
+use Rattle.rules.proofs.Fine.{keeps-parts}
+use Rattle.table.specs.declared.Table.{Table}
+use Rattle.table.specs.Table.{members, countOn}
+use Rattle.table.specs.Rule.{rule, keeps}
 use Rattle.changes.specs.Changes.{dealt, withAnalog, withAlarm, withLimits, withSerial, withVersion}
 use Rattle.command.specs.declared.Kind.{Kind}
 use Rattle.command.specs.declared.Kind.the-variants.{Analog, AnalogGroup, Alarm, AlarmGroup, Protocol, Maker, Limits, Serial, TurnOff, Version, Unserved}
 use Rattle.command.specs.Command.{formOf}
 use Rattle.command.specs.Heard.{words}
 use Rattle.reply.specs.declared.Question.{Question}
+use Rattle.reply.specs.declared.Reading.{Reading}
 use Rattle.reply.specs.Gate.{gate}
-use Rattle.reply.specs.Read.{Data, Left, took, forAll, given, readReply}
+use Rattle.reply.specs.Read.{Data, Left, took, forAll, given, readReply, Reads}
 use Rattle.meet.proofs.Kept.{Oks, replaced-rule, dealt-rule, analog-safe, alarm-safe, limits-safe, serial-safe, version-safe}
 
 -- the records that a reading would leave keep the rule
@@ -115,3 +119,11 @@ read-rule kept ms q stretch e =
     (λ d. e))
     (λ b. e))
     (λ a. e)
+
+-- over the reader's contract
+pub reading-keeps : (t : Table) (q : Question) (stretch : List ℕ) (r : Reading) → Reads (readReply (keeps t) (members t) q stretch) t r → keeps t ≡ true → keeps (r .table) ≡ true
+unfolding keeps
+reading-keeps t q stretch r reads e =
+    let p = keeps-parts t e in
+    let kept : rule (members (r .table)) ≡ true = ap (λ (l : Left). rule (l .modules)) (reads .is) ∙ read-rule (keeps t) (members t) q stretch (p .1) in
+    rw (kept, reads .count, le-leb (t .count) 12 (p .0))
