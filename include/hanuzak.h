@@ -14,7 +14,7 @@
  *
  * Numbers of refusals are the paper's.  Frames: 1 too long, 2 SOI inside, 3 too short, 4 not hex, 5 LCHKSUM differs, 6 LENID odd,
  * 7 count is not 16 + LENID, 8 CHKSUM differs.  Calls: 31 the table breaks its rule, 32 the lent buffer is too short,
- * 33 a value can't be encoded, 34 the command asked is not served, 35 the receiver's count is above 4,110.
+ * 33 a value can't be encoded, 34 the command asked is not served, 35 the receiver's count is above 4,110.  Replies: 11 to 23.
  * Where a field has no value it is 0.  With a refusal every lent buffer and the table stay as they were, unless said otherwise.
  */
 #ifndef HANUZAK_H
@@ -133,6 +133,23 @@ typedef struct hanuzak_answered {
     size_t   length;
 } hanuzak_answered;
 
+/* What was asked.  command is ignored with 4FH and 51H. */
+typedef struct hanuzak_question {
+    uint8_t adr;
+    uint8_t cid2;
+    uint8_t command;
+} hanuzak_question;
+
+/* kind 1 read, 2 refused with a number.  maker has the 32 bytes of 51H; zeros for every other command and with a refusal. */
+typedef struct hanuzak_reply {
+    uint32_t kind;
+    uint32_t number;
+    uint8_t  ver;
+    uint8_t  code;
+    uint8_t  flag;
+    uint8_t  maker[32];
+} hanuzak_reply;
+
 HANUZAK_LAYOUT(sizeof(size_t) == 8);
 HANUZAK_LAYOUT(sizeof(hanuzak_analog) == 68 && offsetof(hanuzak_analog, cells) == 2 && offsetof(hanuzak_analog, temperature_count) == 34);
 HANUZAK_LAYOUT(offsetof(hanuzak_analog, temperatures) == 36 && offsetof(hanuzak_analog, current) == 52 && offsetof(hanuzak_analog, voltage) == 54);
@@ -148,6 +165,8 @@ HANUZAK_LAYOUT(sizeof(hanuzak_receiver) == 16 && offsetof(hanuzak_receiver, coun
 HANUZAK_LAYOUT(sizeof(hanuzak_stepped) == 40 && offsetof(hanuzak_stepped, event) == 16);
 HANUZAK_LAYOUT(sizeof(hanuzak_ran) == 48 && offsetof(hanuzak_ran, event) == 16 && offsetof(hanuzak_ran, taken) == 40);
 HANUZAK_LAYOUT(sizeof(hanuzak_answered) == 16 && offsetof(hanuzak_answered, length) == 8);
+HANUZAK_LAYOUT(sizeof(hanuzak_question) == 3 && offsetof(hanuzak_question, command) == 2);
+HANUZAK_LAYOUT(sizeof(hanuzak_reply) == 44 && offsetof(hanuzak_reply, ver) == 8 && offsetof(hanuzak_reply, maker) == 11);
 
 /* ---- frames and the receiver */
 
@@ -205,6 +224,16 @@ void hanuzak_switch_off(hanuzak_module *table, size_t n, size_t at);
  * the other bytes stay; an accepted 95H switches its module off in the table, and nothing else changes the table.
  */
 hanuzak_answered hanuzak_answer(hanuzak_module *table, size_t n, hanuzak_station station, const uint8_t *stretch, size_t m, uint8_t *out, size_t k);
+
+/* ---- the reply reader */
+
+/*
+ * Reads the reply to a question from the m bytes between SOI and CR into the table: the named fields of the asked record, or
+ * with Command FFH of each member that is on.  Read: VER, the return code and the flag; a code other than 00H changes no record.
+ * Refused: 31, then 34, then 23 for an ADR that is not in the table, then 1 or 3 to 8 of the frame, then 11 to 22 of the reply;
+ * the table stays.
+ */
+hanuzak_reply hanuzak_read_reply(hanuzak_module *table, size_t n, hanuzak_question question, const uint8_t *stretch, size_t m);
 
 /* ---- what numbers mean */
 

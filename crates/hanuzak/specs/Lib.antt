@@ -1,3 +1,4 @@
 pub mod Loaded
 pub mod Flat
 pub mod Answering
+pub mod Reading

@@ -15,7 +15,11 @@ ghost use Rattle.table.specs.Table.{members};
 ghost use Rattle.table.specs.Rule.{rule, keeps};
 ghost use Rattle.groups.specs.Groups.{analogGroupWriting, alarmGroupWriting};
 ghost use Rattle.standin.specs.Answer.{answer, offAt, paper as paperAnswered};
-ghost use Rattle.hanuzak.specs.Loaded.{empty, placed, loaded};
+ghost use Rattle.table.specs.Table.{blank};
+ghost use lib.Dec.{ltb};
+ghost use Rattle.reply.specs.Read.{readReply, paper as paperReply};
+ghost use Rattle.hanuzak.specs.Loaded.{over, empty, placed, loaded};
+ghost use Rattle.hanuzak.specs.Reading.{replyOf, reading, ReplyLeaves, ReadsFlat};
 ghost use Rattle.hanuzak.specs.Flat.{writtenOf, eventOf, flatReceiver, receiverOf, steppedOf, ranOf, answeredOf, FlatWrites};
 ghost use Rattle.hanuzak.specs.Answering.{answering, Leaves, Serves};
 use buffer::Written;
@@ -24,6 +28,8 @@ use frame::Judged;
 use receiver::Event;
 use receiver::Receiver;
 use record::Module;
+use reply::Outcome;
+use reply::Question;
 use standin::Answered;
 use table::Station;
 use table::Table;
@@ -356,6 +362,108 @@ pub extern "C" fn hanuzak_answer(
     let served = serve(station, all, stretch, out);
     hanuzak_switch_off(table, served.off);
     served.answered
+}
+
+// ---- the reply reader
+
+// A reading: kind 1 read, 2 refused; the 32 bytes of 51H are zeros for every other command and with a refusal.
+#[repr(C)]
+pub struct FlatReply {
+    pub kind: u32,
+    pub number: u32,
+    pub ver: u8,
+    pub code: u8,
+    pub flag: u8,
+    pub maker: [u8; 32],
+}
+
+// That, and the table then.
+pub struct ReadReply {
+    pub reply: FlatReply,
+    pub table: Table,
+}
+
+fn flat_reply(outcome: Outcome, maker: [u8; 32]) -> FlatReply
+    ensures { λ r. ⌜ r ≡ replyOf (paperReply outcome) maker ⌝ }
+{
+    match outcome {
+        Outcome::Read(ver, code, flag) => FlatReply {
+            kind: 1,
+            number: 0,
+            ver,
+            code,
+            flag,
+            maker,
+        },
+        Outcome::Refused(refusal) => FlatReply {
+            kind: 2,
+            number: refusal.number() as u32,
+            ver: 0,
+            code: 0,
+            flag: 0,
+            maker,
+        },
+    }
+}
+
+fn read_flat(given: Table, question: Question, stretch: &[u8]) -> ReadReply
+    ensures { λ r. ⌜ ReadsFlat (readReply (keeps given) (members given) question (now (stretch .entry))) (given .count) r ⌝ }
+{
+    let done = reply::read(given, question, stretch);
+    let outcome = done.outcome;
+    let maker = done.maker;
+    let after = done.table;
+    let reply = flat_reply(outcome, maker);
+    ReadReply {
+        reply,
+        table: after,
+    }
+}
+
+// How many of so many records a table by value has places for.
+fn shorter(n: usize) -> usize
+    ensures { λ r. ⌜ r ≡ cond (ltb n 12) n 12 ⌝ }
+{
+    if n < 12 {
+        return n;
+    }
+    12
+}
+
+fn record_in(given: Table, at: usize) -> Module
+    ensures { λ r. ⌜ r ≡ getD (given .modules) at blank ⌝ }
+{
+    if at < 12 {
+        return given.modules[at];
+    }
+    table::blank_module()
+}
+
+// Puts the records of a table by value over those of the lent one.
+pub fn store(table: &mut [Module], from: Table)
+    ensures { λ _. ⌜ now (table .exit) ≡ over (now (table .entry)) (from .modules) ⌝ }
+{
+    let n = shorter(table.len());
+    let mut i = 0;
+    while i < n {
+        table[i] = record_in(from, i);
+        i = i + 1;
+    }
+}
+
+// Reads the reply to a question from a stretch, the bytes between SOI and CR, into the lent table.
+#[no_mangle]
+pub extern "C" fn hanuzak_read_reply(
+    table: &mut [Module],
+    question: Question,
+    stretch: &[u8],
+) -> FlatReply
+    ensures { λ r. ⌜ ReplyLeaves (reading (now (table .entry)) question (now (stretch .entry))) r (now (table .exit)) ⌝ }
+{
+    let all = load(table);
+    let done = read_flat(all, question, stretch);
+    store(table, done.table);
+    done.reply
 }
 
 // ---- frames and the receiver

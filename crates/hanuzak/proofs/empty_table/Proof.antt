@@ -2,6 +2,7 @@
 use mathlib.Core.Path.{ap}
 use lib.ListN.{replicate}
 use borrow.Author.Needs.{needs}
+use Rattle.table.specs.Table.{blank}
 use Rattle.record.specs.declared.Module.{Module}
 use Rattle.hanuzak.proofs.empty_table.Statement.{statement}
 use Rattle.hanuzak.proofs.empty_table.Tie as tie

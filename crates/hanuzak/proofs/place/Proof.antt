@@ -3,8 +3,8 @@ use mathlib.Core.List.{List}
 use mathlib.Core.Path.{sym, ap}
 use native.Mathlib.Omega.{arith}
 use borrow.Author.Needs.{needs}
-use Rattle.table.proofs.Twelve.{twelve}
 use Rattle.hanuzak.proofs.Rows.{set-past}
+use Rattle.table.proofs.Twelve.{twelve}
 use Rattle.record.specs.declared.Module.{Module}
 use Rattle.hanuzak.proofs.place.Statement.{statement}
 use Rattle.hanuzak.proofs.place.Tie as tie
