@@ -1,2 +1,1 @@
-pub mod Capacity
 pub mod Nothing

@@ -4,14 +4,11 @@ use Prim.Native.Nat.{ℕ}
 use lib.ListN.{replicate}
 use lib.IntN.{ℤ, pos}
 use Rattle.record.specs.declared.Analog.{Analog}
-use Rattle.record.specs.Capacities.{Capacities}
 use Rattle.record.specs.Analog.{toAnalog}
+use Rattle.capacity_reader.specs.Nothing.{noCapacities}
 
 abbrev pub noList : ℕ → List ℤ
 noList places = replicate places (pos 0)
-
-abbrev pub noCapacities : Capacities
-noCapacities = (0, (0, 0))
 
 abbrev pub noAnalog : Analog
 noAnalog = toAnalog ((0, noList 16), ((0, noList 8), (pos 0, (0, noCapacities))))

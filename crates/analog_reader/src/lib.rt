@@ -1,16 +1,13 @@
 // The reader of a 42H record at a place of INFO. Counts are read with the record and go with it; on a refusal every field is 0.
 
 ghost use mathlib.Core.Path.{_≡_};
-ghost use mathlib.Core.Bool.{true, false};
-ghost use lib.ListN.{length, drop};
+ghost use lib.ListN.{length};
 ghost use Rattle.hex.specs.Hex.{unhexes};
-ghost use Rattle.codec.specs.Numbers.{signed, three};
-ghost use Rattle.codec.specs.Reading.{outcome, reads};
-ghost use Rattle.record.specs.Capacities.{capacities};
+ghost use Rattle.codec.specs.Numbers.{signed};
+ghost use Rattle.codec.specs.Reading.{reads};
 ghost use Rattle.record.specs.Analog.{measured, analog};
 ghost use Rattle.readers.specs.Readings.{paper, Fills};
-ghost use Rattle.analog_reader.specs.Capacity.{paperCapacity, afterItems};
-ghost use Rattle.analog_reader.specs.Nothing.{noList, noCapacities, noAnalog};
+ghost use Rattle.analog_reader.specs.Nothing.{noList, noAnalog};
 use fields::Next;
 use readers::Reading;
 use record::Analog;
@@ -124,118 +121,6 @@ fn read_temperatures(info: &[u8], at: usize) -> Temperatures
     }
 }
 
-// A capacity of three bytes and the place after it, or that INFO ends before it does.
-enum Capacity {
-    Field(u32, usize),
-    Ends,
-}
-
-fn read_capacity(info: &[u8], at: usize) -> Capacity
-    ensures { λ r. ⌜ paperCapacity r ≡ reads three 0 (unhexes (now (info .entry))) at ⌝ }
-{
-    let Next::Field(high, at1) = fields::field(info, at, 2) else {
-        return Capacity::Ends;
-    };
-    let Next::Field(low, next) = fields::field(info, at1, 1) else {
-        return Capacity::Ends;
-    };
-    Capacity::Field(high as u32 * 256 + low as u32, next)
-}
-
-struct Capacities {
-    reading: Reading,
-    remaining: u32,
-    total: u32,
-    cycles: u16,
-}
-
-fn no_capacities(why: Refusal) -> Capacities
-    ensures { λ r. ⌜ r ≡ record { reading = Reading.Refused why; remaining = 0; total = 0; cycles = 0 } ⌝ }
-{
-    Capacities {
-        reading: Reading::Refused(why),
-        remaining: 0,
-        total: 0,
-        cycles: 0,
-    }
-}
-
-// With items 2, after them: total 1, cycles. Both capacities are at most 65,000.
-fn read_items_2(info: &[u8], at: usize, remaining: u16) -> Capacities
-    ensures { λ r. ⌜ paper (r .reading) (r .remaining, (r .total, r .cycles)) ≡ outcome noCapacities (length (unhexes (now (info .entry)))) (afterItems remaining false (drop at (unhexes (now (info .entry))))) ⌝ }
-{
-    let Next::Field(total, at1) = fields::field(info, at, 2) else {
-        return no_capacities(Refusal::InfoEnds);
-    };
-    let Next::Field(cycles, at2) = fields::field(info, at1, 2) else {
-        return no_capacities(Refusal::InfoEnds);
-    };
-    if remaining > 65000 {
-        return no_capacities(Refusal::CapacitiesBreakRule);
-    }
-    if total > 65000 {
-        return no_capacities(Refusal::CapacitiesBreakRule);
-    }
-    Capacities {
-        reading: Reading::Read(at2),
-        remaining: remaining as u32,
-        total: total as u32,
-        cycles: cycles,
-    }
-}
-
-// With items 4, after them: total 1, cycles, remaining 2, total 2. The two-byte fields are FFFFH, and total 2 is above 65,000.
-fn read_items_4(info: &[u8], at: usize, remaining: u16) -> Capacities
-    ensures { λ r. ⌜ paper (r .reading) (r .remaining, (r .total, r .cycles)) ≡ outcome noCapacities (length (unhexes (now (info .entry)))) (afterItems remaining true (drop at (unhexes (now (info .entry))))) ⌝ }
-{
-    let Next::Field(total, at1) = fields::field(info, at, 2) else {
-        return no_capacities(Refusal::InfoEnds);
-    };
-    let Next::Field(cycles, at2) = fields::field(info, at1, 2) else {
-        return no_capacities(Refusal::InfoEnds);
-    };
-    let Capacity::Field(remaining2, at3) = read_capacity(info, at2) else {
-        return no_capacities(Refusal::InfoEnds);
-    };
-    let Capacity::Field(total2, at4) = read_capacity(info, at3) else {
-        return no_capacities(Refusal::InfoEnds);
-    };
-    if remaining != 65535 {
-        return no_capacities(Refusal::CapacitiesBreakRule);
-    }
-    if total != 65535 {
-        return no_capacities(Refusal::CapacitiesBreakRule);
-    }
-    if total2 <= 65000 {
-        return no_capacities(Refusal::CapacitiesBreakRule);
-    }
-    Capacities {
-        reading: Reading::Read(at4),
-        remaining: remaining2,
-        total: total2,
-        cycles: cycles,
-    }
-}
-
-// Remaining 1, items, and what follows by them.
-fn read_capacities(info: &[u8], at: usize) -> Capacities
-    ensures { λ r. ⌜ paper (r .reading) (r .remaining, (r .total, r .cycles)) ≡ reads capacities noCapacities (unhexes (now (info .entry))) at ⌝ }
-{
-    let Next::Field(remaining, at1) = fields::field(info, at, 2) else {
-        return no_capacities(Refusal::InfoEnds);
-    };
-    let Next::Field(items, at2) = fields::field(info, at1, 1) else {
-        return no_capacities(Refusal::InfoEnds);
-    };
-    if items == 2 {
-        return read_items_2(info, at2, remaining);
-    }
-    if items == 4 {
-        return read_items_4(info, at2, remaining);
-    }
-    no_capacities(Refusal::ItemsUnknown)
-}
-
 fn no_analog(why: Refusal) -> AnalogRead
     ensures { λ r. ⌜ r ≡ record { reading = Reading.Refused why; analog = noAnalog } ⌝ }
 {
@@ -278,7 +163,7 @@ pub fn read_analog(info: &[u8], at: usize) -> AnalogRead
                     let Next::Field(voltage, at4) = fields::field(info, at3, 2) else {
                         return no_analog(Refusal::InfoEnds);
                     };
-                    let third = read_capacities(info, at4);
+                    let third = capacity_reader::read_capacities(info, at4);
                     let reading3 = third.reading;
                     match reading3 {
                         Reading::Refused(why) => no_analog(why),

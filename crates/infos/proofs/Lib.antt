@@ -1,3 +1,4 @@
 pub mod Stages
+pub mod Turns
 pub mod Ones
 pub mod Answers

@@ -1,2 +1,3 @@
 pub mod Took
 pub mod Nothing
+pub mod Groups

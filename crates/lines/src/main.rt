@@ -72,7 +72,7 @@ fn print_words(key: &[u8], count: u8, list: &[i16]) {
 
 // Reads the INFO of a 42H reply to ADR 02 and prints its fields.
 fn analog(name: &[u8], info: &[u8]) {
-    let found = infos::take_analog(info, 2);
+    let found = analog_infos::take_analog(info, 2);
     let taken = found.taken;
     let analog = found.analog;
     print_taken(name, taken);
@@ -90,7 +90,7 @@ fn analog(name: &[u8], info: &[u8]) {
 
 // Reads the INFO of a 92H reply to ADR 02 and prints its fields.
 fn limits(name: &[u8], info: &[u8]) {
-    let found = infos::take_limits(info, 2);
+    let found = plain_infos::take_limits(info, 2);
     let taken = found.taken;
     let limits = found.limits;
     print_taken(name, taken);

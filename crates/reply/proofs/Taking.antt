@@ -25,7 +25,7 @@ use Rattle.infos.specs.declared.Taken.{Taken}
 use Rattle.infos.specs.Nothing.{noMaker}
 use Rattle.infos.specs.Took.{paper, taken}
 use Rattle.infos.proofs.Answers.{when-taken, when-refused}
-use Rattle.group_infos.specs.Groups.{noPlaces, grouped}
+use Rattle.infos.specs.Groups.{noPlaces, grouped}
 use Rattle.table.specs.declared.Table.{Table}
 use Rattle.table.specs.Table.{members, countOn}
 use Rattle.changes.specs.Changes.{replaced, dealt, TableIs}

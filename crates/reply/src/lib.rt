@@ -134,7 +134,7 @@ fn was_read(table: Table, ver: u8, code: u8, flag: u8) -> Reading
 fn read_analog(table: Table, adr: u8, ver: u8, info: &[u8]) -> Reading
     ensures { λ r. ⌜ Reads (given ver (members table) (took Kind.Analog (members table) adr (unhexes (now (info .entry))))) table r ⌝ }
 {
-    let found = infos::take_analog(info, adr);
+    let found = analog_infos::take_analog(info, adr);
     let taken = found.taken;
     match taken {
         Taken::Refused(why) => not_read(table, why),
@@ -149,7 +149,7 @@ fn read_analog(table: Table, adr: u8, ver: u8, info: &[u8]) -> Reading
 fn read_alarm(table: Table, adr: u8, ver: u8, info: &[u8]) -> Reading
     ensures { λ r. ⌜ Reads (given ver (members table) (took Kind.Alarm (members table) adr (unhexes (now (info .entry))))) table r ⌝ }
 {
-    let found = infos::take_alarm(info, adr);
+    let found = alarm_infos::take_alarm(info, adr);
     let taken = found.taken;
     match taken {
         Taken::Refused(why) => not_read(table, why),
@@ -164,7 +164,7 @@ fn read_alarm(table: Table, adr: u8, ver: u8, info: &[u8]) -> Reading
 fn read_limits(table: Table, adr: u8, ver: u8, info: &[u8]) -> Reading
     ensures { λ r. ⌜ Reads (given ver (members table) (took Kind.Limits (members table) adr (unhexes (now (info .entry))))) table r ⌝ }
 {
-    let found = infos::take_limits(info, adr);
+    let found = plain_infos::take_limits(info, adr);
     let taken = found.taken;
     match taken {
         Taken::Refused(why) => not_read(table, why),
@@ -179,7 +179,7 @@ fn read_limits(table: Table, adr: u8, ver: u8, info: &[u8]) -> Reading
 fn read_serial(table: Table, adr: u8, ver: u8, info: &[u8]) -> Reading
     ensures { λ r. ⌜ Reads (given ver (members table) (took Kind.Serial (members table) adr (unhexes (now (info .entry))))) table r ⌝ }
 {
-    let found = infos::take_serial(info, adr);
+    let found = plain_infos::take_serial(info, adr);
     let taken = found.taken;
     match taken {
         Taken::Refused(why) => not_read(table, why),
@@ -194,7 +194,7 @@ fn read_serial(table: Table, adr: u8, ver: u8, info: &[u8]) -> Reading
 fn read_version(table: Table, adr: u8, ver: u8, info: &[u8]) -> Reading
     ensures { λ r. ⌜ Reads (given ver (members table) (took Kind.Version (members table) adr (unhexes (now (info .entry))))) table r ⌝ }
 {
-    let found = infos::take_version(info, adr);
+    let found = plain_infos::take_version(info, adr);
     let taken = found.taken;
     match taken {
         Taken::Refused(why) => not_read(table, why),
@@ -210,7 +210,7 @@ fn read_version(table: Table, adr: u8, ver: u8, info: &[u8]) -> Reading
 fn read_analog_group(table: Table, adr: u8, ver: u8, info: &[u8]) -> Reading
     ensures { λ r. ⌜ Reads (given ver (members table) (took Kind.AnalogGroup (members table) adr (unhexes (now (info .entry))))) table r ⌝ }
 {
-    let found = group_infos::take_analog_group(info);
+    let found = analog_infos::take_analog_group(info);
     let taken = found.taken;
     match taken {
         Taken::Refused(why) => not_read(table, why),
@@ -229,7 +229,7 @@ fn read_analog_group(table: Table, adr: u8, ver: u8, info: &[u8]) -> Reading
 fn read_alarm_group(table: Table, adr: u8, ver: u8, info: &[u8]) -> Reading
     ensures { λ r. ⌜ Reads (given ver (members table) (took Kind.AlarmGroup (members table) adr (unhexes (now (info .entry))))) table r ⌝ }
 {
-    let found = group_infos::take_alarm_group(info);
+    let found = alarm_infos::take_alarm_group(info);
     let taken = found.taken;
     match taken {
         Taken::Refused(why) => not_read(table, why),
@@ -258,7 +258,7 @@ fn read_nothing(table: Table, ver: u8, info: &[u8]) -> Reading
 fn read_maker(table: Table, adr: u8, ver: u8, info: &[u8]) -> Reading
     ensures { λ r. ⌜ Reads (given ver (members table) (took Kind.Maker (members table) adr (unhexes (now (info .entry))))) table r ⌝ }
 {
-    let found = infos::take_maker(info);
+    let found = plain_infos::take_maker(info);
     let taken = found.taken;
     match taken {
         Taken::Refused(why) => not_read(table, why),

@@ -8,8 +8,9 @@ use mir.Facts.{toZ-ofZ}
 use mir.Syntax.{w16}
 use borrow.Author.Needs.{needs}
 use Rattle.analog_reader.specs.declared.AnalogRead.{AnalogRead}
-use Rattle.analog_reader.specs.declared.Capacities.{Capacities}
-use Rattle.analog_reader.specs.Nothing.{noList, noCapacities, noAnalog}
+use Rattle.capacity_reader.specs.declared.CapacitiesRead.{CapacitiesRead}
+use Rattle.analog_reader.specs.Nothing.{noList, noAnalog}
+use Rattle.capacity_reader.specs.Nothing.{noCapacities}
 use Rattle.record.specs.Analog.{measured, analog}
 use Rattle.record.specs.Capacities.{capacities}
 use Rattle.codec.proofs.Places.{found, stops}

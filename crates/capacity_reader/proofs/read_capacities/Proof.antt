@@ -1,0 +1,116 @@
+-- The items say what follows.
+use mathlib.Core.Bool.{true, false}
+use mathlib.Core.Path.{ap, _∙_}
+use Prim.Native.Nat.{ℕ, _-_}
+use lib.ListN.{take, drop}
+use lib.Dec.{T}
+use borrow.Author.Tests.{ne-eqb}
+use borrow.Author.Needs.{needs}
+use Rattle.capacity_reader.proofs.Threes.{after-items}
+use Rattle.capacity_reader.specs.declared.CapacitiesRead.{CapacitiesRead}
+use Rattle.capacity_reader.specs.Nothing.{noCapacities}
+use Rattle.capacity_reader.specs.Capacity.{afterItems}
+use Rattle.record.specs.Capacities.{capacities}
+use Rattle.codec.proofs.Places.{goes-on, stops}
+use Rattle.codec.specs.Reading.{read}
+use Rattle.codec.specs.Numbers.{word}
+use Rattle.readers.proofs.Steps.{field-went, field-ended}
+use Rattle.readers.specs.Readings.{paper}
+use Rattle.codec.specs.Codec.{byte, got, no}
+use Rattle.hex.proofs.Laws.{bytes-unhexes}
+use Rattle.hex.specs.Hex.{unhexes}
+use Rattle.capacity_reader.proofs.read_capacities.Statement.{statement}
+use Rattle.capacity_reader.proofs.read_capacities.Tie as tie
+
+field-requires : tie.Need-field-requires
+field-requires c κs = search needs
+
+enum-known-remaining : tie.Need-enum-known-remaining
+enum-known-remaining c = search needs
+
+enum-told : tie.Need-enum-told
+enum-told c = search needs
+
+no-capacities-requires : tie.Need-no-capacities-requires
+no-capacities-requires c κs = search needs
+
+returns : tie.Need-returns
+unfolding capacities
+returns c =
+    let e1 = field-ended word (unhexes (c .before .before .before .before .before .args .info .now)) (c .before .before .before .before .before .args .at) (c .before .before .before .field .result) (c .before .before .before .field .ensures) (c .before .enum-told .given .1) in
+    ap (λ (x : CapacitiesRead). paper (x .reading) (x .remaining, (x .total, x .cycles))) (c .no-capacities .ensures)
+    ∙ stops capacities noCapacities (unhexes (c .before .before .before .before .before .args .info .now)) (c .before .before .before .before .before .args .at) (rw (e1))
+
+field-requires-2 : tie.Need-field-requires-2
+field-requires-2 c κs = search needs
+
+enum-known-items : tie.Need-enum-known-items
+enum-known-items c = search needs
+
+enum-told-2 : tie.Need-enum-told-2
+enum-told-2 c = search needs
+
+no-capacities-requires-2 : tie.Need-no-capacities-requires-2
+no-capacities-requires-2 c κs = search needs
+
+returns-2 : tie.Need-returns-2
+unfolding capacities
+returns-2 c =
+    let w1 = field-went word (unhexes (c .before .before .before .before .before .before .before .before .before .args .info .now)) (c .before .before .before .before .before .before .before .before .before .args .at) (c .before .before .before .before .before .before .before .field .result) (c .before .before .before .before .before .before .before .field .ensures) (bytes-unhexes (c .before .before .before .before .before .before .before .before .before .args .info .now)) (c .before .before .before .before .before .remaining .given .1) in
+    let e2 = field-ended byte (unhexes (c .before .before .before .before .before .before .before .before .before .args .info .now)) (c .before .before .before .before .before .remaining .given .0 .1 .0) (c .before .before .before .field2 .result) (c .before .before .before .field2 .ensures) (c .before .enum-told2 .given .1) in
+    ap (λ (x : CapacitiesRead). paper (x .reading) (x .remaining, (x .total, x .cycles))) (c .no-capacities2 .ensures)
+    ∙ stops capacities noCapacities (unhexes (c .before .before .before .before .before .before .before .before .before .args .info .now)) (c .before .before .before .before .before .before .before .before .before .args .at) (rw (w1 .get, e2))
+
+read-items-2-requires : tie.Need-read-items-2-requires
+read-items-2-requires c κs = search needs
+
+returns-3 : tie.Need-returns-3
+returns-3 c =
+    let w1 = field-went word (unhexes (c .before .before .before .before .before .before .before .before .before .before .before .args .info .now)) (c .before .before .before .before .before .before .before .before .before .before .before .args .at) (c .before .before .before .before .before .before .before .before .before .field .result) (c .before .before .before .before .before .before .before .before .before .field .ensures) (bytes-unhexes (c .before .before .before .before .before .before .before .before .before .before .before .args .info .now)) (c .before .before .before .before .before .before .before .remaining .given .1) in
+    let w2 = field-went byte (unhexes (c .before .before .before .before .before .before .before .before .before .before .before .args .info .now)) (c .before .before .before .before .before .before .before .remaining .given .0 .1 .0) (c .before .before .before .before .before .field2 .result) (c .before .before .before .before .before .field2 .ensures) (bytes-unhexes (c .before .before .before .before .before .before .before .before .before .before .before .args .info .now)) (c .before .before .before .items .given .1) in
+    c .read-items-2 .ensures
+    ∙ goes-on capacities noCapacities (unhexes (c .before .before .before .before .before .before .before .before .before .before .before .args .info .now)) (c .before .before .before .before .before .before .before .before .before .before .before .args .at) (afterItems (c .before .before .before .before .before .before .before .remaining .given .0 .0) false (drop (c .before .before .before .items .given .0 .1 .0) (unhexes (c .before .before .before .before .before .before .before .before .before .before .before .args .info .now))))
+    (after-items (unhexes (c .before .before .before .before .before .before .before .before .before .before .before .args .info .now)) (c .before .before .before .before .before .before .before .before .before .before .before .args .at) (c .before .before .before .before .before .before .before .remaining .given .0 .1 .0) (c .before .before .before .items .given .0 .1 .0) (c .before .before .before .before .before .before .before .remaining .given .0 .0) false (w1 .get) (w2 .get ∙ ap (λ (v : ℕ). got v (drop (c .before .before .before .items .given .0 .1 .0) (unhexes (c .before .before .before .before .before .before .before .before .before .before .before .args .info .now)))) (c .before .if1 .taken)))
+
+read-items-4-requires : tie.Need-read-items-4-requires
+read-items-4-requires c κs = search needs
+
+returns-4 : tie.Need-returns-4
+returns-4 c =
+    let w1 = field-went word (unhexes (c .before .before .before .before .before .before .before .before .before .before .before .before .args .info .now)) (c .before .before .before .before .before .before .before .before .before .before .before .before .args .at) (c .before .before .before .before .before .before .before .before .before .before .field .result) (c .before .before .before .before .before .before .before .before .before .before .field .ensures) (bytes-unhexes (c .before .before .before .before .before .before .before .before .before .before .before .before .args .info .now)) (c .before .before .before .before .before .before .before .before .remaining .given .1) in
+    let w2 = field-went byte (unhexes (c .before .before .before .before .before .before .before .before .before .before .before .before .args .info .now)) (c .before .before .before .before .before .before .before .before .remaining .given .0 .1 .0) (c .before .before .before .before .before .before .field2 .result) (c .before .before .before .before .before .before .field2 .ensures) (bytes-unhexes (c .before .before .before .before .before .before .before .before .before .before .before .before .args .info .now)) (c .before .before .before .before .items .given .1) in
+    c .read-items-4 .ensures
+    ∙ goes-on capacities noCapacities (unhexes (c .before .before .before .before .before .before .before .before .before .before .before .before .args .info .now)) (c .before .before .before .before .before .before .before .before .before .before .before .before .args .at) (afterItems (c .before .before .before .before .before .before .before .before .remaining .given .0 .0) true (drop (c .before .before .before .before .items .given .0 .1 .0) (unhexes (c .before .before .before .before .before .before .before .before .before .before .before .before .args .info .now))))
+    (after-items (unhexes (c .before .before .before .before .before .before .before .before .before .before .before .before .args .info .now)) (c .before .before .before .before .before .before .before .before .before .before .before .before .args .at) (c .before .before .before .before .before .before .before .before .remaining .given .0 .1 .0) (c .before .before .before .before .items .given .0 .1 .0) (c .before .before .before .before .before .before .before .before .remaining .given .0 .0) true (w1 .get) (w2 .get ∙ ap (λ (v : ℕ). got v (drop (c .before .before .before .before .items .given .0 .1 .0) (unhexes (c .before .before .before .before .before .before .before .before .before .before .before .before .args .info .now)))) (c .before .if2 .taken)))
+
+no-capacities-requires-3 : tie.Need-no-capacities-requires-3
+no-capacities-requires-3 c κs = search needs
+
+returns-5 : tie.Need-returns-5
+unfolding capacities
+returns-5 c =
+    let w1 = field-went word (unhexes (c .before .before .before .before .before .before .before .before .before .before .before .before .args .info .now)) (c .before .before .before .before .before .before .before .before .before .before .before .before .args .at) (c .before .before .before .before .before .before .before .before .before .before .field .result) (c .before .before .before .before .before .before .before .before .before .before .field .ensures) (bytes-unhexes (c .before .before .before .before .before .before .before .before .before .before .before .before .args .info .now)) (c .before .before .before .before .before .before .before .before .remaining .given .1) in
+    let w2 = field-went byte (unhexes (c .before .before .before .before .before .before .before .before .before .before .before .before .args .info .now)) (c .before .before .before .before .before .before .before .before .remaining .given .0 .1 .0) (c .before .before .before .before .before .before .field2 .result) (c .before .before .before .before .before .before .field2 .ensures) (bytes-unhexes (c .before .before .before .before .before .before .before .before .before .before .before .before .args .info .now)) (c .before .before .before .before .items .given .1) in
+    ap (λ (x : CapacitiesRead). paper (x .reading) (x .remaining, (x .total, x .cycles))) (c .no-capacities3 .ensures)
+    ∙ stops capacities noCapacities (unhexes (c .before .before .before .before .before .before .before .before .before .before .before .before .args .info .now)) (c .before .before .before .before .before .before .before .before .before .before .before .before .args .at) (rw (w1 .get, w2 .get, ne-eqb (c .before .before .before .before .items .given .0 .0) 2 (c .before .before .if1 .left), ne-eqb (c .before .before .before .before .items .given .0 .0) 4 (c .before .if2 .left)))
+
+pub read-capacities-spec : {M : Type 1} → statement M
+read-capacities-spec =
+    tie.close
+    (tie.spec
+    field-requires
+    enum-known-remaining
+    enum-told
+    no-capacities-requires
+    returns
+    field-requires-2
+    enum-known-items
+    enum-told-2
+    no-capacities-requires-2
+    returns-2
+    read-items-2-requires
+    returns-3
+    read-items-4-requires
+    returns-4
+    no-capacities-requires-3
+    returns-5)
