@@ -79,13 +79,8 @@ type RunFn = unsafe extern "C" fn(Receiver, *mut u8, usize, *const u8, usize) ->
 extern "C" {
     fn hanuzak_judge(stretch: *const u8, n: usize) -> Event;
     fn hanuzak_step(receiver: Receiver, store: *mut u8, n: usize, byte: u8) -> Stepped;
-    fn hanuzak_run(
-        receiver: Receiver,
-        store: *mut u8,
-        n: usize,
-        piece: *const u8,
-        m: usize,
-    ) -> Ran;
+    fn hanuzak_run(receiver: Receiver, store: *mut u8, n: usize, piece: *const u8, m: usize)
+        -> Ran;
     fn hanuzak_write_frame(
         ver: u8,
         adr: u8,
@@ -118,13 +113,7 @@ extern "C" {
 extern "C" {
     fn plain_judge(stretch: *const u8, n: usize) -> Event;
     fn plain_step(receiver: Receiver, store: *mut u8, n: usize, byte: u8) -> Stepped;
-    fn plain_run(
-        receiver: Receiver,
-        store: *mut u8,
-        n: usize,
-        piece: *const u8,
-        m: usize,
-    ) -> Ran;
+    fn plain_run(receiver: Receiver, store: *mut u8, n: usize, piece: *const u8, m: usize) -> Ran;
 }
 
 /// The judge and the receiver, of the archive or of the plain C.

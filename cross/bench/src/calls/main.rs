@@ -145,10 +145,12 @@ fn run_by_reference(capture: &[u8], store: &mut [u8]) -> u64 {
     sum
 }
 
-/// The first eight bytes of the last frame stand for it.
+/// Its length and the eight characters before its CR, CHKSUM among them, stand for a frame.
 fn text_word(length: usize, out: &[u8]) -> u64 {
     let check = &out[length - 9..length - 1];
-    check.iter().fold(length as u64, |sum, &c| mixed(sum, u64::from(c)))
+    check
+        .iter()
+        .fold(length as u64, |sum, &c| mixed(sum, u64::from(c)))
 }
 
 fn write_by_us(infos: &[Vec<u8>], out: &mut [u8]) -> u64 {
@@ -320,18 +322,28 @@ fn cases<'a>(seeded: &mut Seeded, capture: &'a [u8]) -> Vec<Case<'a>> {
     };
     let question = asking(GROUP, station);
     let mut out = vec![0; 4_112];
-    let length = match reference::answer(&mut table.clone(), &station, &stretch(&question), &mut out)
-    {
-        Answer::Reply(length) => length,
-        _ => 0,
-    };
+    let length =
+        match reference::answer(&mut table.clone(), &station, &stretch(&question), &mut out) {
+            Answer::Reply(length) => length,
+            _ => 0,
+        };
     vec![
         judge_case(replies, "a 42H reply"),
         judge_case(long, "the longest"),
         write_case((0..64).map(|_| seeded.bytes(55)).collect()),
         write_case((0..8).map(|_| seeded.bytes(2_047)).collect()),
-        receiver_case("receive 42H replies by step", capture, step_by, step_by_reference),
-        receiver_case("receive 42H replies by run", capture, run_by, run_by_reference),
+        receiver_case(
+            "receive 42H replies by step",
+            capture,
+            step_by,
+            step_by_reference,
+        ),
+        receiver_case(
+            "receive 42H replies by run",
+            capture,
+            run_by,
+            run_by_reference,
+        ),
         answer_case(&table, station, &question),
         read_case(&others, &out[..length]),
     ]
@@ -394,7 +406,10 @@ fn row(case: &Case, best: &[f64]) -> Vec<String> {
             Some(&nanoseconds) => {
                 let ratio = nanoseconds / best[0];
                 if case.stream {
-                    format!("{:.0} MB/s, {ratio:.2}", case.amount as f64 * 1e3 / nanoseconds)
+                    format!(
+                        "{:.0} MB/s, {ratio:.2}",
+                        case.amount as f64 * 1e3 / nanoseconds
+                    )
                 } else {
                     format!("{:.0} ns, {ratio:.2}", nanoseconds / case.amount as f64)
                 }
@@ -428,7 +443,9 @@ fn main() -> ExitCode {
     while capture.len() < 4 * PIECE {
         capture.extend(reply(&mut seeded));
     }
-    let mut rows = vec![["call", "ours", "Rust reference", "plain C"].map(String::from).to_vec()];
+    let mut rows = vec![["call", "ours", "Rust reference", "plain C"]
+        .map(String::from)
+        .to_vec()];
     for mut case in cases(&mut seeded, &capture) {
         let found: Vec<u64> = case.ways.iter_mut().map(|way| way()).collect();
         if found.iter().any(|&word| word != found[0]) {
