@@ -71,10 +71,6 @@ pub struct Reply {
     pub maker: [u8; 32],
 }
 
-type JudgeFn = unsafe extern "C" fn(*const u8, usize) -> Event;
-type StepFn = unsafe extern "C" fn(Receiver, *mut u8, usize, u8) -> Stepped;
-type RunFn = unsafe extern "C" fn(Receiver, *mut u8, usize, *const u8, usize) -> Ran;
-
 #[link(name = "hanuzak", kind = "static")]
 extern "C" {
     fn hanuzak_judge(stretch: *const u8, n: usize) -> Event;
@@ -117,53 +113,44 @@ extern "C" {
 }
 
 /// The judge and the receiver, of the archive or of the plain C.
-#[derive(Clone, Copy)]
-pub struct Frames {
-    judge: JudgeFn,
-    step: StepFn,
-    run: RunFn,
+pub trait Frames {
+    /// Judges the bytes between SOI and CR.
+    fn judge(stretch: &[u8]) -> Event;
+    /// One byte of the stream.
+    fn step(receiver: Receiver, store: &mut [u8], byte: u8) -> Stepped;
+    /// A piece of the stream, up to an event.
+    fn run(receiver: Receiver, store: &mut [u8], piece: &[u8]) -> Ran;
 }
 
 /// The archive's.
-pub const OURS: Frames = Frames {
-    judge: hanuzak_judge,
-    step: hanuzak_step,
-    run: hanuzak_run,
-};
+pub struct Ours;
 
 /// The plain C's.
-pub const PLAIN: Frames = Frames {
-    judge: plain_judge,
-    step: plain_step,
-    run: plain_run,
-};
+pub struct Plain;
 
 // SAFETY of every call below: a slice is its pointer and its length, exclusive where it is mutable, and all bytes of the arguments
 // are initialised. Nothing else is asked of a caller.
-impl Frames {
-    /// Judges the bytes between SOI and CR.
-    pub fn judge(self, stretch: &[u8]) -> Event {
-        unsafe { (self.judge)(stretch.as_ptr(), stretch.len()) }
-    }
+macro_rules! frames {
+    ($name:ident, $judge:ident, $step:ident, $run:ident) => {
+        impl Frames for $name {
+            fn judge(stretch: &[u8]) -> Event {
+                unsafe { $judge(stretch.as_ptr(), stretch.len()) }
+            }
 
-    /// One byte of the stream.
-    pub fn step(self, receiver: Receiver, store: &mut [u8], byte: u8) -> Stepped {
-        unsafe { (self.step)(receiver, store.as_mut_ptr(), store.len(), byte) }
-    }
+            fn step(receiver: Receiver, store: &mut [u8], byte: u8) -> Stepped {
+                unsafe { $step(receiver, store.as_mut_ptr(), store.len(), byte) }
+            }
 
-    /// A piece of the stream, up to an event.
-    pub fn run(self, receiver: Receiver, store: &mut [u8], piece: &[u8]) -> Ran {
-        unsafe {
-            (self.run)(
-                receiver,
-                store.as_mut_ptr(),
-                store.len(),
-                piece.as_ptr(),
-                piece.len(),
-            )
+            fn run(receiver: Receiver, store: &mut [u8], piece: &[u8]) -> Ran {
+                let (lent, room) = (store.as_mut_ptr(), store.len());
+                unsafe { $run(receiver, lent, room, piece.as_ptr(), piece.len()) }
+            }
         }
-    }
+    };
 }
+
+frames!(Ours, hanuzak_judge, hanuzak_step, hanuzak_run);
+frames!(Plain, plain_judge, plain_step, plain_run);
 
 /// A frame from SOI to CR.
 pub fn write_frame(header: reference::Header, info: &[u8], out: &mut [u8]) -> Written {

@@ -2,7 +2,7 @@
 
 mod archive;
 
-use archive::{Frames, OURS, PLAIN};
+use archive::{Frames, Ours, Plain};
 use bench::captures::{framed, module, reply};
 use bench::table;
 use reference::seeded::Seeded;
@@ -71,9 +71,9 @@ fn reference_word(event: Event) -> u64 {
 
 // ---- the passes
 
-fn judge_by(frames: Frames, stretches: &[Vec<u8>]) -> u64 {
+fn judge_by<F: Frames>(stretches: &[Vec<u8>]) -> u64 {
     stretches.iter().fold(0, |sum, stretch| {
-        mixed(sum, event_word(&frames.judge(black_box(stretch))))
+        mixed(sum, event_word(&F::judge(black_box(stretch))))
     })
 }
 
@@ -87,11 +87,11 @@ fn judge_by_reference(stretches: &[Vec<u8>]) -> u64 {
     })
 }
 
-fn step_by(frames: Frames, capture: &[u8], store: &mut [u8]) -> u64 {
+fn step_by<F: Frames>(capture: &[u8], store: &mut [u8]) -> u64 {
     let mut receiver = archive::Receiver { open: 0, count: 0 };
     let mut sum = 0;
     for &byte in capture {
-        let stepped = frames.step(receiver, store, byte);
+        let stepped = F::step(receiver, store, byte);
         receiver = stepped.next;
         if stepped.event.kind != 0 {
             sum = mixed(sum, event_word(&stepped.event));
@@ -113,12 +113,12 @@ fn step_by_reference(capture: &[u8], store: &mut [u8]) -> u64 {
     sum
 }
 
-fn run_by(frames: Frames, capture: &[u8], store: &mut [u8]) -> u64 {
+fn run_by<F: Frames>(capture: &[u8], store: &mut [u8]) -> u64 {
     let mut receiver = archive::Receiver { open: 0, count: 0 };
     let mut sum = 0;
     for mut piece in capture.chunks(PIECE) {
         while !piece.is_empty() {
-            let ran = frames.run(receiver, store, piece);
+            let ran = F::run(receiver, store, piece);
             receiver = ran.next;
             piece = &piece[ran.taken..];
             if ran.event.kind != 0 {
@@ -204,9 +204,9 @@ fn judge_case(stretches: Vec<Vec<u8>>, what: &str) -> Case<'static> {
         amount,
         stream: false,
         ways: vec![
-            Box::new(move || judge_by(OURS, &stretches)),
+            Box::new(move || judge_by::<Ours>(&stretches)),
             Box::new(move || judge_by_reference(&second)),
-            Box::new(move || judge_by(PLAIN, &third)),
+            Box::new(move || judge_by::<Plain>(&third)),
         ],
     }
 }
@@ -226,21 +226,21 @@ fn write_case(infos: Vec<Vec<u8>>) -> Case<'static> {
     }
 }
 
-type By = fn(Frames, &[u8], &mut [u8]) -> u64;
-type ByReference = fn(&[u8], &mut [u8]) -> u64;
+/// A pass over a capture with a store.
+type Receive = fn(&[u8], &mut [u8]) -> u64;
 
-fn receiver_case<'a>(name: &str, capture: &'a [u8], by: By, by_reference: ByReference) -> Case<'a> {
-    let stores = || vec![0; 4_110];
-    let (mut ours, mut theirs, mut plain) = (stores(), stores(), stores());
+fn receiver_case<'a>(name: &str, capture: &'a [u8], ways: [Receive; 3]) -> Case<'a> {
     Case {
         name: name.to_string(),
         amount: capture.len(),
         stream: true,
-        ways: vec![
-            Box::new(move || by(OURS, capture, &mut ours)),
-            Box::new(move || by_reference(capture, &mut theirs)),
-            Box::new(move || by(PLAIN, capture, &mut plain)),
-        ],
+        ways: ways
+            .into_iter()
+            .map(|way| {
+                let mut store = vec![0; 4_110];
+                Box::new(move || way(capture, &mut store)) as Work<'a>
+            })
+            .collect(),
     }
 }
 
@@ -335,14 +335,12 @@ fn cases<'a>(seeded: &mut Seeded, capture: &'a [u8]) -> Vec<Case<'a>> {
         receiver_case(
             "receive 42H replies by step",
             capture,
-            step_by,
-            step_by_reference,
+            [step_by::<Ours>, step_by_reference, step_by::<Plain>],
         ),
         receiver_case(
             "receive 42H replies by run",
             capture,
-            run_by,
-            run_by_reference,
+            [run_by::<Ours>, run_by_reference, run_by::<Plain>],
         ),
         answer_case(&table, station, &question),
         read_case(&others, &out[..length]),
