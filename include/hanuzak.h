@@ -10,7 +10,7 @@
  *   4. Every element is initialised, list places past a count too.  Padding is free, and unspecified after a store: never
  *      compare two records by memcmp.
  * There is no other duty: every value of every field is a legal argument, a bad one gets a refusal's number.
- * No function allocates, blocks, keeps a pointer after it returns or has state of its own.  Of libc they call memcpy and memmove.
+ * No function allocates, blocks, keeps a pointer after it returns or has state of its own.  Of libc they call memcpy, memmove and memset.
  *
  * Numbers of refusals are the paper's.  Frames: 1 too long, 2 SOI inside, 3 too short, 4 not hex, 5 LCHKSUM differs, 6 LENID odd,
  * 7 count is not 16 + LENID, 8 CHKSUM differs.  Calls: 31 the table breaks its rule, 32 the lent buffer is too short,
@@ -25,9 +25,6 @@
 
 #ifdef __cplusplus
 extern "C" {
-#define HANUZAK_LAYOUT(c) static_assert(c, "hanuzak.h: layout: " #c)
-#else
-#define HANUZAK_LAYOUT(c) _Static_assert(c, "hanuzak.h: layout: " #c)
 #endif
 
 #define HANUZAK_CELLS 16
@@ -35,6 +32,8 @@ extern "C" {
 #define HANUZAK_MODULES 12   /* the most records that a table has */
 #define HANUZAK_STORE 4110   /* the least store of a receiver */
 #define HANUZAK_ANSWER 4112  /* the least buffer of an answer */
+#define HANUZAK_LISTING 4200 /* the least buffer of a listing */
+#define HANUZAK_CLOSING 38   /* the least buffer for its totals */
 
 /* ---- the module record; list places beyond a count are 0 */
 
@@ -126,6 +125,20 @@ typedef struct hanuzak_ran {
     size_t           taken; /* how many bytes of the piece */
 } hanuzak_ran;
 
+/* Where a listing stands: its receiver, the offset of the next byte, and the totals so far. */
+typedef struct hanuzak_listing {
+    hanuzak_receiver receiver;
+    uint32_t         offset;
+    uint32_t         frames;
+    uint32_t         refusals;
+} hanuzak_listing;
+
+typedef struct hanuzak_listed {
+    hanuzak_listing next;
+    size_t          taken;   /* how many bytes of the piece */
+    hanuzak_written written; /* number 0 and the length of the text, or the refusal's number */
+} hanuzak_listed;
+
 /* kind 0 silence, 1 a reply of length bytes, 2 refused with a number. */
 typedef struct hanuzak_answered {
     uint32_t kind;
@@ -150,56 +163,165 @@ typedef struct hanuzak_reply {
     uint8_t  maker[32];
 } hanuzak_reply;
 
-HANUZAK_LAYOUT(sizeof(size_t) == 8);
-HANUZAK_LAYOUT(sizeof(hanuzak_analog) == 68 && offsetof(hanuzak_analog, cells) == 2 && offsetof(hanuzak_analog, temperature_count) == 34);
-HANUZAK_LAYOUT(offsetof(hanuzak_analog, temperatures) == 36 && offsetof(hanuzak_analog, current) == 52 && offsetof(hanuzak_analog, voltage) == 54);
-HANUZAK_LAYOUT(offsetof(hanuzak_analog, remaining) == 56 && offsetof(hanuzak_analog, total) == 60 && offsetof(hanuzak_analog, cycles) == 64);
-HANUZAK_LAYOUT(sizeof(hanuzak_alarm) == 34 && offsetof(hanuzak_alarm, cells) == 1 && offsetof(hanuzak_alarm, temperatures) == 18 && offsetof(hanuzak_alarm, status) == 29);
-HANUZAK_LAYOUT(sizeof(hanuzak_limits) == 10 && offsetof(hanuzak_limits, status) == 8);
-HANUZAK_LAYOUT(sizeof(hanuzak_module) == 140 && offsetof(hanuzak_module, on) == 1 && offsetof(hanuzak_module, link_fault) == 2 && offsetof(hanuzak_module, analog) == 4);
-HANUZAK_LAYOUT(offsetof(hanuzak_module, alarm) == 72 && offsetof(hanuzak_module, limits) == 106 && offsetof(hanuzak_module, serial) == 116 && offsetof(hanuzak_module, version) == 132);
-HANUZAK_LAYOUT(sizeof(hanuzak_station) == 33 && offsetof(hanuzak_station, maker) == 1);
-HANUZAK_LAYOUT(sizeof(hanuzak_written) == 16 && offsetof(hanuzak_written, length) == 8);
-HANUZAK_LAYOUT(sizeof(hanuzak_event) == 24 && offsetof(hanuzak_event, ver) == 8 && offsetof(hanuzak_event, cid2) == 11 && offsetof(hanuzak_event, lenid) == 16);
-HANUZAK_LAYOUT(sizeof(hanuzak_receiver) == 16 && offsetof(hanuzak_receiver, count) == 8);
-HANUZAK_LAYOUT(sizeof(hanuzak_stepped) == 40 && offsetof(hanuzak_stepped, event) == 16);
-HANUZAK_LAYOUT(sizeof(hanuzak_ran) == 48 && offsetof(hanuzak_ran, event) == 16 && offsetof(hanuzak_ran, taken) == 40);
-HANUZAK_LAYOUT(sizeof(hanuzak_answered) == 16 && offsetof(hanuzak_answered, length) == 8);
-HANUZAK_LAYOUT(sizeof(hanuzak_question) == 3 && offsetof(hanuzak_question, command) == 2);
-HANUZAK_LAYOUT(sizeof(hanuzak_reply) == 44 && offsetof(hanuzak_reply, ver) == 8 && offsetof(hanuzak_reply, maker) == 11);
+/* ---- the layout that the library was compiled with: the size of each struct, the place and size of each field */
+
+#ifdef __cplusplus
+#define HANUZAK_LAYOUT(condition) static_assert(condition, "hanuzak.h: layout: " #condition)
+#else
+#define HANUZAK_LAYOUT(condition) _Static_assert(condition, "hanuzak.h: layout: " #condition)
+#endif
+#define HANUZAK_SIZE(type, size) HANUZAK_LAYOUT(sizeof(type) == (size))
+#define HANUZAK_FIELD(type, field, place, size) HANUZAK_LAYOUT(offsetof(type, field) == (place) && sizeof(((type *)0)->field) == (size))
+
+HANUZAK_SIZE(size_t, 8);
+
+HANUZAK_SIZE(hanuzak_analog, 68);
+HANUZAK_FIELD(hanuzak_analog, cell_count, 0, 1);
+HANUZAK_FIELD(hanuzak_analog, cells, 2, 32);
+HANUZAK_FIELD(hanuzak_analog, temperature_count, 34, 1);
+HANUZAK_FIELD(hanuzak_analog, temperatures, 36, 16);
+HANUZAK_FIELD(hanuzak_analog, current, 52, 2);
+HANUZAK_FIELD(hanuzak_analog, voltage, 54, 2);
+HANUZAK_FIELD(hanuzak_analog, remaining, 56, 4);
+HANUZAK_FIELD(hanuzak_analog, total, 60, 4);
+HANUZAK_FIELD(hanuzak_analog, cycles, 64, 2);
+
+HANUZAK_SIZE(hanuzak_alarm, 34);
+HANUZAK_FIELD(hanuzak_alarm, cell_count, 0, 1);
+HANUZAK_FIELD(hanuzak_alarm, cells, 1, 16);
+HANUZAK_FIELD(hanuzak_alarm, temperature_count, 17, 1);
+HANUZAK_FIELD(hanuzak_alarm, temperatures, 18, 8);
+HANUZAK_FIELD(hanuzak_alarm, charge_current, 26, 1);
+HANUZAK_FIELD(hanuzak_alarm, module_voltage, 27, 1);
+HANUZAK_FIELD(hanuzak_alarm, discharge_current, 28, 1);
+HANUZAK_FIELD(hanuzak_alarm, status, 29, 5);
+
+HANUZAK_SIZE(hanuzak_limits, 10);
+HANUZAK_FIELD(hanuzak_limits, charge_voltage, 0, 2);
+HANUZAK_FIELD(hanuzak_limits, discharge_voltage, 2, 2);
+HANUZAK_FIELD(hanuzak_limits, charge_current, 4, 2);
+HANUZAK_FIELD(hanuzak_limits, discharge_current, 6, 2);
+HANUZAK_FIELD(hanuzak_limits, status, 8, 1);
+
+HANUZAK_SIZE(hanuzak_module, 140);
+HANUZAK_FIELD(hanuzak_module, adr, 0, 1);
+HANUZAK_FIELD(hanuzak_module, on, 1, 1);
+HANUZAK_FIELD(hanuzak_module, link_fault, 2, 1);
+HANUZAK_FIELD(hanuzak_module, analog, 4, 68);
+HANUZAK_FIELD(hanuzak_module, alarm, 72, 34);
+HANUZAK_FIELD(hanuzak_module, limits, 106, 10);
+HANUZAK_FIELD(hanuzak_module, serial, 116, 16);
+HANUZAK_FIELD(hanuzak_module, version, 132, 5);
+
+HANUZAK_SIZE(hanuzak_station, 33);
+HANUZAK_FIELD(hanuzak_station, ver, 0, 1);
+HANUZAK_FIELD(hanuzak_station, maker, 1, 32);
+
+HANUZAK_SIZE(hanuzak_written, 16);
+HANUZAK_FIELD(hanuzak_written, number, 0, 4);
+HANUZAK_FIELD(hanuzak_written, length, 8, 8);
+
+HANUZAK_SIZE(hanuzak_event, 24);
+HANUZAK_FIELD(hanuzak_event, kind, 0, 4);
+HANUZAK_FIELD(hanuzak_event, number, 4, 4);
+HANUZAK_FIELD(hanuzak_event, ver, 8, 1);
+HANUZAK_FIELD(hanuzak_event, adr, 9, 1);
+HANUZAK_FIELD(hanuzak_event, cid1, 10, 1);
+HANUZAK_FIELD(hanuzak_event, cid2, 11, 1);
+HANUZAK_FIELD(hanuzak_event, lenid, 16, 8);
+
+HANUZAK_SIZE(hanuzak_receiver, 16);
+HANUZAK_FIELD(hanuzak_receiver, open, 0, 1);
+HANUZAK_FIELD(hanuzak_receiver, count, 8, 8);
+
+HANUZAK_SIZE(hanuzak_stepped, 40);
+HANUZAK_FIELD(hanuzak_stepped, next, 0, 16);
+HANUZAK_FIELD(hanuzak_stepped, event, 16, 24);
+
+HANUZAK_SIZE(hanuzak_ran, 48);
+HANUZAK_FIELD(hanuzak_ran, next, 0, 16);
+HANUZAK_FIELD(hanuzak_ran, event, 16, 24);
+HANUZAK_FIELD(hanuzak_ran, taken, 40, 8);
+
+HANUZAK_SIZE(hanuzak_listing, 32);
+HANUZAK_FIELD(hanuzak_listing, receiver, 0, 16);
+HANUZAK_FIELD(hanuzak_listing, offset, 16, 4);
+HANUZAK_FIELD(hanuzak_listing, frames, 20, 4);
+HANUZAK_FIELD(hanuzak_listing, refusals, 24, 4);
+
+HANUZAK_SIZE(hanuzak_listed, 56);
+HANUZAK_FIELD(hanuzak_listed, next, 0, 32);
+HANUZAK_FIELD(hanuzak_listed, taken, 32, 8);
+HANUZAK_FIELD(hanuzak_listed, written, 40, 16);
+
+HANUZAK_SIZE(hanuzak_answered, 16);
+HANUZAK_FIELD(hanuzak_answered, kind, 0, 4);
+HANUZAK_FIELD(hanuzak_answered, number, 4, 4);
+HANUZAK_FIELD(hanuzak_answered, length, 8, 8);
+
+HANUZAK_SIZE(hanuzak_question, 3);
+HANUZAK_FIELD(hanuzak_question, adr, 0, 1);
+HANUZAK_FIELD(hanuzak_question, cid2, 1, 1);
+HANUZAK_FIELD(hanuzak_question, command, 2, 1);
+
+HANUZAK_SIZE(hanuzak_reply, 44);
+HANUZAK_FIELD(hanuzak_reply, kind, 0, 4);
+HANUZAK_FIELD(hanuzak_reply, number, 4, 4);
+HANUZAK_FIELD(hanuzak_reply, ver, 8, 1);
+HANUZAK_FIELD(hanuzak_reply, code, 9, 1);
+HANUZAK_FIELD(hanuzak_reply, flag, 10, 1);
+HANUZAK_FIELD(hanuzak_reply, maker, 11, 32);
+
+#undef HANUZAK_FIELD
+#undef HANUZAK_SIZE
+#undef HANUZAK_LAYOUT
 
 /* ---- frames and the receiver */
 
-/* Judges the n bytes between SOI and CR: a frame, or refused with 1 or 3 to 8. */
+/* Judges the n bytes between SOI and CR: a frame, or refused with 1 above 4,110 bytes, then 3 to 8. */
 hanuzak_event hanuzak_judge(const uint8_t *stretch, size_t n);
 
 /* A fresh receiver, waiting. */
 hanuzak_receiver hanuzak_receiver_new(void);
 
 /*
- * One byte of the stream.  A character is stored at place count.  Refused: 32 for a store below 4,110 bytes, then 35 for a
- * count above 4,110, and the receiver comes back (open as 0 or 1, and count 0 where it waits); 2 for SOI inside, open again
- * with count 0; 1 for a 4,111th character, and 3 to 8 at CR, then waiting.
+ * One byte of the stream: the receiver then, and the event.  A frame's INFO is the lenid characters from place 12 of the store on.
+ * A character is stored at place count, and nothing else writes to the store.  Refused: 32 for a store below 4,110 bytes, then
+ * 35 for a count above 4,110, and the receiver comes back (open as 0 or 1, and count 0 where it waits); 2 for SOI inside, open
+ * again with count 0; 1 for a 4,111th character, which is not stored, and 3 to 8 at CR, then waiting.
  */
 hanuzak_stepped hanuzak_step(hanuzak_receiver receiver, uint8_t *store, size_t n, uint8_t byte);
 
-/* The same over the m bytes of a piece, up to and including the byte that gives an event, or all of it.  32 and 35 take none. */
+/*
+ * The same over the m bytes of a piece, up to and including the byte that gives an event, or all of it with no event: call it
+ * again with the rest.  Refused as by hanuzak_step; 32 and 35 take no byte.
+ */
 hanuzak_ran hanuzak_run(hanuzak_receiver receiver, uint8_t *store, size_t n, const uint8_t *piece, size_t m);
 
-/* ---- writers: at the front of out, whose other bytes stay; a refusal leaves all of it */
+/* ---- writers: they return the length, write at the front of out and leave its other bytes; a refusal leaves all of it */
 
-/* A frame from SOI to CR around the n bytes of INFO: 33 above 2,047 of them, then 32. */
+/* A frame from SOI to CR around the n bytes of INFO, 18 + 2n bytes.  Refused: 33 for n above 2,047, then 32. */
 hanuzak_written hanuzak_write_frame(uint8_t ver, uint8_t adr, uint8_t cid1, uint8_t cid2, const uint8_t *info, size_t n, uint8_t *out, size_t m);
 
-/* INFO of 42H, 44H, 92H, 93H and 96H for one module: 33 where a value or its ADR can't be encoded, then 32. */
+/* INFO of 42H for one module, at most 69 bytes.  Refused: 33 where ADR or a value of analog can't be encoded, then 32. */
 hanuzak_written hanuzak_write_analog(hanuzak_module module, uint8_t flag, uint8_t *out, size_t n);
+
+/* INFO of 44H for one module, at most 36 bytes.  Refused: 33 where ADR or a value of alarm can't be encoded, then 32. */
 hanuzak_written hanuzak_write_alarm(hanuzak_module module, uint8_t flag, uint8_t *out, size_t n);
+
+/* INFO of 92H, 10 bytes.  Refused: 33 for an ADR outside the address rule, then 32. */
 hanuzak_written hanuzak_write_limits(hanuzak_module module, uint8_t *out, size_t n);
+
+/* INFO of 93H, 17 bytes.  Refused: 33 for an ADR outside the address rule, then 32. */
 hanuzak_written hanuzak_write_serial(hanuzak_module module, uint8_t *out, size_t n);
+
+/* INFO of 96H, 6 bytes.  Refused: 33 for an ADR outside the address rule, then 32. */
 hanuzak_written hanuzak_write_version(hanuzak_module module, uint8_t *out, size_t n);
 
-/* INFO of 42H and 44H for Command FFH, with the records of the members that are on: 31, then 32. */
+/* INFO of 42H for Command FFH, with the records of the members that are on, at most 806 bytes.  Refused: 31, then 32. */
 hanuzak_written hanuzak_write_analog_group(const hanuzak_module *table, size_t n, uint8_t flag, uint8_t *out, size_t m);
+
+/* INFO of 44H for Command FFH, with the records of the members that are on, at most 410 bytes.  Refused: 31, then 32. */
 hanuzak_written hanuzak_write_alarm_group(const hanuzak_module *table, size_t n, uint8_t flag, uint8_t *out, size_t m);
 
 /* ---- the table */
@@ -235,6 +357,22 @@ hanuzak_answered hanuzak_answer(hanuzak_module *table, size_t n, hanuzak_station
  */
 hanuzak_reply hanuzak_read_reply(hanuzak_module *table, size_t n, hanuzak_question question, const uint8_t *stretch, size_t m);
 
+/* ---- the listing of a capture */
+
+/* A fresh listing: offset 0, both totals 0, the receiver waiting. */
+hanuzak_listing hanuzak_listing_new(void);
+
+/*
+ * Lists the m bytes of a piece: the lines of its frames and refused stretches stand at the front of out, and its other bytes stay.
+ * It takes a byte only while 4,200 bytes of out are left, and none from offset 1,073,741,824 of the stream on; call it again with
+ * the rest and the emptied buffer.  Refused: 32 for a store of n below 4,110 bytes or a buffer of k below 4,200, then 35 for a
+ * count above 4,110: no byte is taken, store and buffer stay, and the listing comes back, its receiver as from hanuzak_step.
+ */
+hanuzak_listed hanuzak_list(hanuzak_listing listing, uint8_t *store, size_t n, const uint8_t *piece, size_t m, uint8_t *out, size_t k);
+
+/* The two totals, the listing's last lines, at the front of out; its other bytes stay.  Refused: 32 for n below 38; the buffer stays. */
+hanuzak_written hanuzak_list_close(hanuzak_listing listing, uint8_t *out, size_t n);
+
 /* ---- what numbers mean */
 
 /* A temperature as on the wire, in tenths of a degree Celsius: raw - 2731. */
@@ -242,8 +380,6 @@ int32_t hanuzak_tenths_celsius(int16_t raw);
 
 /* A current in milliamps: current * 100. */
 int32_t hanuzak_milliamps(int16_t current);
-
-#undef HANUZAK_LAYOUT
 
 #ifdef __cplusplus
 }

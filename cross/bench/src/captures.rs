@@ -43,10 +43,10 @@ impl Kind {
     }
 }
 
-/// A 42H reply as a bench sees it.
-fn reply(seeded: &mut Seeded) -> Vec<u8> {
+/// A module with 15 cells and 5 temperatures, as a bench sees it.
+pub fn module(seeded: &mut Seeded, adr: u8) -> Module {
     let mut module = Module {
-        adr: seeded.number(2, 9) as u8,
+        adr,
         analog: Analog {
             cell_count: 15,
             temperature_count: 5,
@@ -66,12 +66,20 @@ fn reply(seeded: &mut Seeded) -> Vec<u8> {
     }
     let sum: i32 = module.analog.cells.iter().map(|&c| i32::from(c)).sum();
     module.analog.voltage = sum as u16;
-    let mut info = [0; 128];
-    let length = write_analog(&module, 0x00, &mut info).unwrap_or(0);
-    framed(module.adr, &info[..length])
+    module
 }
 
-fn framed(adr: u8, info: &[u8]) -> Vec<u8> {
+/// A 42H reply of such a module, from SOI to CR.
+pub fn reply(seeded: &mut Seeded) -> Vec<u8> {
+    let adr = seeded.number(2, 9) as u8;
+    let module = module(seeded, adr);
+    let mut info = [0; 128];
+    let length = write_analog(&module, 0x00, &mut info).unwrap_or(0);
+    framed(adr, &info[..length])
+}
+
+/// A reply around INFO, from SOI to CR.
+pub fn framed(adr: u8, info: &[u8]) -> Vec<u8> {
     let header = Header {
         ver: 0x20,
         adr,

@@ -3,10 +3,10 @@
 //! First all programs must print the same listing for a small capture of each kind. Then they run
 //! in turns, several rounds, from a file to /dev/null.
 
-mod captures;
 mod measure;
 
-use captures::Kind;
+use bench::captures::{self, Kind};
+use bench::table;
 use measure::{cpu_seconds, output, peak_memory, Program};
 use std::path::{Path, PathBuf};
 use std::process::ExitCode;
@@ -171,21 +171,7 @@ fn print_table(programs: &[Program], sizes: &[u64], best: &[Vec<f64>]) {
         }
         rows.push(row);
     }
-    let widths: Vec<usize> = (0..rows[0].len())
-        .map(|column| rows.iter().map(|row| row[column].len()).max().unwrap_or(0))
-        .collect();
-    for (place, row) in rows.iter().enumerate() {
-        let cells: Vec<String> = row
-            .iter()
-            .zip(&widths)
-            .map(|(cell, width)| format!("{cell:width$}"))
-            .collect();
-        println!("| {} |", cells.join(" | "));
-        if place == 0 {
-            let lines: Vec<String> = widths.iter().map(|width| "-".repeat(*width)).collect();
-            println!("|-{}-|", lines.join("-|-"));
-        }
-    }
+    table::print(&rows);
 }
 
 fn compare(options: &Options) -> Result<(), String> {
