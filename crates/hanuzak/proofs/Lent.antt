@@ -17,16 +17,17 @@ use Rattle.reply.specs.Read.{Left, readReply}
 use Rattle.table.specs.Rule.{rule, keeps}
 use Rattle.groups.specs.Groups.{analogGroupWriting, alarmGroupWriting}
 use Rattle.standin.specs.Answer.{answer, offAt}
-use Rattle.hanuzak.specs.declared.FlatReply.{FlatReply}
-use Rattle.hanuzak.specs.declared.ReadReply.{ReadReply}
-use Rattle.hanuzak.specs.Loaded.{over, loaded}
-use Rattle.hanuzak.specs.Reading.{replyOf, toldOf, reading, ReplyLeaves, ReadsFlat}
-use Rattle.hanuzak.specs.declared.FlatAnswered.{FlatAnswered}
-use Rattle.hanuzak.specs.declared.Served.{Served}
-use Rattle.hanuzak.specs.Flat.{answeredOf}
-use Rattle.hanuzak.specs.Answering.{Then, tableThen, thenOf, answering, Leaves, Serves}
-use Rattle.hanuzak.proofs.Rows.{set-past}
-use Rattle.hanuzak.proofs.Loaded.{by-loaded, take-all, few-keep, loaded-members, many-break, over-all, over-back, length-over}
+use Rattle.flat.specs.declared.FlatReply.{FlatReply}
+use Rattle.entries.specs.declared.ReadReply.{ReadReply}
+use Rattle.lent.specs.Loaded.{over, loaded}
+use Rattle.entries.specs.Entries.{Serves, ReadsFlat}
+use Rattle.hanuzak.specs.Reading.{toldOf, reading, ReplyLeaves}
+use Rattle.flat.specs.declared.FlatAnswered.{FlatAnswered}
+use Rattle.entries.specs.declared.Served.{Served}
+use Rattle.flat.specs.Flat.{answeredOf, replyOf}
+use Rattle.hanuzak.specs.Answering.{Then, tableThen, thenOf, answering, Leaves}
+use Rattle.lent.proofs.Rows.{set-past}
+use Rattle.lent.proofs.Loaded.{by-loaded, take-all, few-keep, loaded-members, many-break, over-all, over-back, length-over}
 
 module _ (ms : List Module) (flag : ℕ) (out : List ℕ) where
   pub lent-analog : analogGroupWriting (keeps (loaded ms)) flag (members (loaded ms)) out ≡ analogGroupWriting (rule ms) flag ms out

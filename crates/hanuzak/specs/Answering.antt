@@ -8,9 +8,8 @@ use Rattle.record.specs.declared.Module.{Module}
 use Rattle.table.specs.declared.Station.{Station}
 use Rattle.table.specs.Rule.{rule}
 use Rattle.standin.specs.Answer.{Left, answer, offAt}
-use Rattle.hanuzak.specs.declared.FlatAnswered.{FlatAnswered}
-use Rattle.hanuzak.specs.declared.Served.{Served}
-use Rattle.hanuzak.specs.Flat.{answeredOf}
+use Rattle.flat.specs.declared.FlatAnswered.{FlatAnswered}
+use Rattle.flat.specs.Flat.{answeredOf}
 
 -- the answer, the table and the buffer
 pub record Then : Type 0 where
@@ -31,9 +30,3 @@ answering station ms stretch out = thenOf ms (answer (rule ms) station ms stretc
 -- the contract of the stand-in over a lent table
 abbrev pub Leaves : Then → FlatAnswered → List Module → List ℕ → Type 0
 Leaves left r table out = record { answered = r; table = table; out = out } ≡ left
-
--- the same over a table by value with a count: the place of the record that goes off, or the count
-pub record Serves (left : Left) (count : ℕ) (r : Served) (out′ : List ℕ) : Type 0 where
-  pub answered : r .answered ≡ answeredOf (left .outcome)
-  pub off : r .off ≡ cond (ltb (left .off) 12) (left .off) count
-  pub out : out′ ≡ left .out

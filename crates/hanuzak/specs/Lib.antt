@@ -1,4 +1,2 @@
-pub mod Loaded
-pub mod Flat
 pub mod Answering
 pub mod Reading

@@ -43,11 +43,12 @@ use Rattle.table.specs.declared.Table.{Table}
 use Rattle.table.specs.Table.{members}
 use Rattle.table.specs.Rule.{keeps}
 use Rattle.standin.specs.Answer.{answer, offAt}
-use Rattle.hanuzak.specs.declared.FlatAnswered.{FlatAnswered}
-use Rattle.hanuzak.specs.declared.Served.{Served}
-use Rattle.hanuzak.specs.Loaded.{loaded}
-use Rattle.hanuzak.specs.Answering.{answering, Leaves, Serves}
-use Rattle.hanuzak.proofs.Asks.{asks}
+use Rattle.flat.specs.declared.FlatAnswered.{FlatAnswered}
+use Rattle.entries.specs.declared.Served.{Served}
+use Rattle.lent.specs.Loaded.{loaded}
+use Rattle.entries.specs.Entries.{Serves}
+use Rattle.hanuzak.specs.Answering.{answering, Leaves}
+use Rattle.lent.proofs.Asks.{asks}
 use Rattle.hanuzak.proofs.Shared.{SharedOut, shares-out, comes-home}
 use Rattle.hanuzak.proofs.Lent.{lent-answering}
 use Rattle.record.proofs.Module as T
@@ -55,18 +56,18 @@ use Rattle.table.proofs.Table as L
 use Rattle.table.proofs.Table.Laws as L′
 use Rattle.table.proofs.Station as S
 use Rattle.table.proofs.Station.Laws as S′
-use Rattle.hanuzak.proofs.FlatAnswered as R
-use Rattle.hanuzak.proofs.FlatAnswered.Laws as R′
-use Rattle.hanuzak.proofs.Served as G
-use Rattle.hanuzak.proofs.Served.Laws as G′
-use Rattle.hanuzak.proofs.load as load
-use Rattle.hanuzak.proofs.load.Symbol as load-def
-use Rattle.hanuzak.proofs.load.Symbol.{name as #load}
-use Rattle.hanuzak.proofs.load.Met as load-thm
-use Rattle.hanuzak.proofs.serve as serve
-use Rattle.hanuzak.proofs.serve.Symbol as serve-def
-use Rattle.hanuzak.proofs.serve.Symbol.{name as #serve}
-use Rattle.hanuzak.proofs.serve.Met as serve-thm
+use Rattle.flat.proofs.FlatAnswered as R
+use Rattle.flat.proofs.FlatAnswered.Laws as R′
+use Rattle.entries.proofs.Served as G
+use Rattle.entries.proofs.Served.Laws as G′
+use Rattle.lent.proofs.load as load
+use Rattle.lent.proofs.load.Symbol as load-def
+use Rattle.lent.proofs.load.Symbol.{name as #load}
+use Rattle.lent.proofs.load.Met as load-thm
+use Rattle.entries.proofs.serve as serve
+use Rattle.entries.proofs.serve.Symbol as serve-def
+use Rattle.entries.proofs.serve.Symbol.{name as #serve}
+use Rattle.entries.proofs.serve.Met as serve-thm
 use Rattle.hanuzak.proofs.hanuzak_switch_off as off
 use Rattle.hanuzak.proofs.hanuzak_switch_off.Symbol as off-def
 use Rattle.hanuzak.proofs.hanuzak_switch_off.Symbol.{name as #off}
@@ -206,6 +207,6 @@ hanuzak-answer-spec 𝓤 H 𝓜 𝓖 𝓡 =
     entered 𝓤 H (tripleOf 𝓤 H (𝓖 .A) f.signature (f.spec 𝓤 H (𝓖 .A) (𝓜 .mem) (𝓡 .run)))
     (tables 𝓤 H 𝓜 𝓡 code.env .C) (tables 𝓤 H 𝓜 𝓡 code.env .Λ) #answer code.function (code.unfolded 𝓤 H 𝓜 𝓡)
     (hanuzak-answer-meets 𝓤 H (𝓖 .A) (givenOf 𝓤 H 𝓜 𝓖) (𝓜 .mem) (𝓡 .run) (tablesOf 𝓤 H 𝓜 (tables 𝓤 H 𝓜 𝓡 code.env))
-    (cited 𝓤 H (Load 𝓤 H (𝓖 .A) (𝓜 .mem) (𝓡 .run)) 𝓜 𝓡 code.env #load load-def.routine code.calls-hanuzak·load (load-thm.met 𝓤 H 𝓜 𝓖 𝓡))
-    (cited 𝓤 H (Serve 𝓤 H (𝓖 .A) (𝓜 .mem) (𝓡 .run)) 𝓜 𝓡 code.env #serve serve-def.routine code.calls-hanuzak·serve (serve-thm.met 𝓤 H 𝓜 𝓖 𝓡))
+    (cited 𝓤 H (Load 𝓤 H (𝓖 .A) (𝓜 .mem) (𝓡 .run)) 𝓜 𝓡 code.env #load load-def.routine code.calls-lent·load (load-thm.met 𝓤 H 𝓜 𝓖 𝓡))
+    (cited 𝓤 H (Serve 𝓤 H (𝓖 .A) (𝓜 .mem) (𝓡 .run)) 𝓜 𝓡 code.env #serve serve-def.routine code.calls-entries·serve (serve-thm.met 𝓤 H 𝓜 𝓖 𝓡))
     (cited 𝓤 H (Off 𝓤 H (𝓖 .A) (𝓜 .mem) (𝓡 .run)) 𝓜 𝓡 code.env #off off-def.routine code.calls-hanuzak·hanuzak-switch-off (off-thm.met 𝓤 H 𝓜 𝓖 𝓡)))

@@ -44,11 +44,12 @@ use Rattle.table.specs.Table.{members}
 use Rattle.table.specs.Rule.{keeps}
 use Rattle.reply.specs.Read.{readReply}
 use Rattle.table.proofs.Twelve.{twelve}
-use Rattle.hanuzak.specs.declared.FlatReply.{FlatReply}
-use Rattle.hanuzak.specs.declared.ReadReply.{ReadReply}
-use Rattle.hanuzak.specs.Loaded.{over, loaded}
-use Rattle.hanuzak.specs.Reading.{reading, ReplyLeaves, ReadsFlat}
-use Rattle.hanuzak.proofs.Asks.{asks}
+use Rattle.flat.specs.declared.FlatReply.{FlatReply}
+use Rattle.entries.specs.declared.ReadReply.{ReadReply}
+use Rattle.lent.specs.Loaded.{over, loaded}
+use Rattle.entries.specs.Entries.{ReadsFlat}
+use Rattle.hanuzak.specs.Reading.{reading, ReplyLeaves}
+use Rattle.lent.proofs.Asks.{asks}
 use Rattle.hanuzak.proofs.Shared.{SharedOut, shares-out, comes-home}
 use Rattle.hanuzak.proofs.Lent.{lent-reading}
 use Rattle.record.proofs.Module as T
@@ -56,22 +57,22 @@ use Rattle.table.proofs.Table as L
 use Rattle.table.proofs.Table.Laws as L′
 use Rattle.reply.proofs.Question as S
 use Rattle.reply.proofs.Question.Laws as S′
-use Rattle.hanuzak.proofs.FlatReply as R
-use Rattle.hanuzak.proofs.FlatReply.Laws as R′
-use Rattle.hanuzak.proofs.ReadReply as G
-use Rattle.hanuzak.proofs.ReadReply.Laws as G′
-use Rattle.hanuzak.proofs.load as load
-use Rattle.hanuzak.proofs.load.Symbol as load-def
-use Rattle.hanuzak.proofs.load.Symbol.{name as #load}
-use Rattle.hanuzak.proofs.load.Met as load-thm
-use Rattle.hanuzak.proofs.read_flat as reads
-use Rattle.hanuzak.proofs.read_flat.Symbol as reads-def
-use Rattle.hanuzak.proofs.read_flat.Symbol.{name as #reads}
-use Rattle.hanuzak.proofs.read_flat.Met as reads-thm
-use Rattle.hanuzak.proofs.store as stores
-use Rattle.hanuzak.proofs.store.Symbol as stores-def
-use Rattle.hanuzak.proofs.store.Symbol.{name as #stores}
-use Rattle.hanuzak.proofs.store.Met as stores-thm
+use Rattle.flat.proofs.FlatReply as R
+use Rattle.flat.proofs.FlatReply.Laws as R′
+use Rattle.entries.proofs.ReadReply as G
+use Rattle.entries.proofs.ReadReply.Laws as G′
+use Rattle.lent.proofs.load as load
+use Rattle.lent.proofs.load.Symbol as load-def
+use Rattle.lent.proofs.load.Symbol.{name as #load}
+use Rattle.lent.proofs.load.Met as load-thm
+use Rattle.entries.proofs.read_flat as reads
+use Rattle.entries.proofs.read_flat.Symbol as reads-def
+use Rattle.entries.proofs.read_flat.Symbol.{name as #reads}
+use Rattle.entries.proofs.read_flat.Met as reads-thm
+use Rattle.lent.proofs.store as stores
+use Rattle.lent.proofs.store.Symbol as stores-def
+use Rattle.lent.proofs.store.Symbol.{name as #stores}
+use Rattle.lent.proofs.store.Met as stores-thm
 use Rattle.hanuzak.proofs.hanuzak_read_reply.Key.{name as #read-reply}
 use Rattle.hanuzak.proofs.hanuzak_read_reply as f
 use Rattle.hanuzak.proofs.hanuzak_read_reply.Statement as stated
@@ -201,6 +202,6 @@ hanuzak-read-reply-spec 𝓤 H 𝓜 𝓖 𝓡 =
     entered 𝓤 H (tripleOf 𝓤 H (𝓖 .A) f.signature (f.spec 𝓤 H (𝓖 .A) (𝓜 .mem) (𝓡 .run)))
     (tables 𝓤 H 𝓜 𝓡 code.env .C) (tables 𝓤 H 𝓜 𝓡 code.env .Λ) #read-reply code.function (code.unfolded 𝓤 H 𝓜 𝓡)
     (hanuzak-read-reply-meets 𝓤 H (𝓖 .A) (givenOf 𝓤 H 𝓜 𝓖) (𝓜 .mem) (𝓡 .run) (tablesOf 𝓤 H 𝓜 (tables 𝓤 H 𝓜 𝓡 code.env))
-    (cited 𝓤 H (Load 𝓤 H (𝓖 .A) (𝓜 .mem) (𝓡 .run)) 𝓜 𝓡 code.env #load load-def.routine code.calls-hanuzak·load (load-thm.met 𝓤 H 𝓜 𝓖 𝓡))
-    (cited 𝓤 H (Reads 𝓤 H (𝓖 .A) (𝓜 .mem) (𝓡 .run)) 𝓜 𝓡 code.env #reads reads-def.routine code.calls-hanuzak·read-flat (reads-thm.met 𝓤 H 𝓜 𝓖 𝓡))
-    (cited 𝓤 H (Stores 𝓤 H (𝓖 .A) (𝓜 .mem) (𝓡 .run)) 𝓜 𝓡 code.env #stores stores-def.routine code.calls-hanuzak·store (stores-thm.met 𝓤 H 𝓜 𝓖 𝓡)))
+    (cited 𝓤 H (Load 𝓤 H (𝓖 .A) (𝓜 .mem) (𝓡 .run)) 𝓜 𝓡 code.env #load load-def.routine code.calls-lent·load (load-thm.met 𝓤 H 𝓜 𝓖 𝓡))
+    (cited 𝓤 H (Reads 𝓤 H (𝓖 .A) (𝓜 .mem) (𝓡 .run)) 𝓜 𝓡 code.env #reads reads-def.routine code.calls-entries·read-flat (reads-thm.met 𝓤 H 𝓜 𝓖 𝓡))
+    (cited 𝓤 H (Stores 𝓤 H (𝓖 .A) (𝓜 .mem) (𝓡 .run)) 𝓜 𝓡 code.env #stores stores-def.routine code.calls-lent·store (stores-thm.met 𝓤 H 𝓜 𝓖 𝓡)))

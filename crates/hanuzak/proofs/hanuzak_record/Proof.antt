@@ -39,7 +39,7 @@ use denote.Triple.Table.{entered}
 use denote.Triple.Walked.{says, Stays, stay-dropped, walkOf, goes-dropped, Walks, ends-at, walked, walk-meets}
 use denote.Exit.{yes}
 use Rattle.record.specs.declared.Module.{Module}
-use Rattle.hanuzak.proofs.Rows.{offset-fits}
+use Rattle.lent.proofs.Rows.{offset-fits}
 use Rattle.record.proofs.Module as T
 use Rattle.record.proofs.Module.Laws as T′
 use Rattle.hanuzak.proofs.hanuzak_record.Key.{name as #record}

@@ -38,7 +38,7 @@ use denote.Triple.Table.{entered}
 use denote.Triple.Walked.{says, Stays, stay-dropped, gave-slice, walkOf, goes-dropped, goes-gave-slice, Walks, ends-at, walked, walk-meets}
 use denote.Exit.{yes}
 use Rattle.record.specs.declared.Module.{Module}
-use Rattle.hanuzak.proofs.Rows.{offset-fits, set-past, settles}
+use Rattle.lent.proofs.Rows.{offset-fits, set-past, settles}
 use Rattle.record.proofs.Module as T
 use Rattle.record.proofs.Module.Laws as T′
 use Rattle.hanuzak.proofs.hanuzak_replace.Key.{name as #replace}

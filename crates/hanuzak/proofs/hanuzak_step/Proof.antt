@@ -1,6 +1,6 @@
 -- The step, flattened.
 use borrow.Author.Needs.{needs}
-use Rattle.hanuzak.proofs.Flat.{flat-steps}
+use Rattle.flat.proofs.Flat.{flat-steps}
 use Rattle.hanuzak.proofs.hanuzak_step.Statement.{statement}
 use Rattle.hanuzak.proofs.hanuzak_step.Tie as tie
 
@@ -10,17 +10,17 @@ receiver-of-requires c κs = search needs
 step-requires : tie.Need-step-requires
 step-requires c κs = search needs
 
-flat-receiver-requires : tie.Need-flat-receiver-requires
-flat-receiver-requires c κs = search needs
+receiver-requires : tie.Need-receiver-requires
+receiver-requires c κs = search needs
 
-flat-event-requires : tie.Need-flat-event-requires
-flat-event-requires c κs = search needs
+event-requires : tie.Need-event-requires
+event-requires c κs = search needs
 
 same-length : tie.Need-same-length
 same-length c = search needs
 
 returns : tie.Need-returns
-returns c = flat-steps (c .before .before .before .before .before .before .before .before .args .receiver) (c .before .before .before .before .before .before .receiver-of .result) (c .before .before .before .before .before .before .receiver-of .ensures) (c .before .before .before .before .before .before .before .before .args .store .now) (c .before .before .before .before .step .last .1 .0) (c .before .flat-receiver .result) (c .flat-event .result) (c .before .before .before .before .before .before .before .before .args .byte) (c .before .before .before .before .step .result) (c .before .before .before .before .step .ensures) (c .before .flat-receiver .ensures) (c .flat-event .ensures)
+returns c = flat-steps (c .before .before .before .before .before .before .before .before .args .receiver) (c .before .before .before .before .before .before .receiver-of .result) (c .before .before .before .before .before .before .receiver-of .ensures) (c .before .before .before .before .before .before .before .before .args .store .now) (c .before .before .before .before .step .last .1 .0) (c .before .receiver .result) (c .event .result) (c .before .before .before .before .before .before .before .before .args .byte) (c .before .before .before .before .step .result) (c .before .before .before .before .step .ensures) (c .before .receiver .ensures) (c .event .ensures)
 
 pub hanuzak-step-spec : {M : Type 1} → statement M
 hanuzak-step-spec =
@@ -28,7 +28,7 @@ hanuzak-step-spec =
     (tie.spec
     receiver-of-requires
     step-requires
-    flat-receiver-requires
-    flat-event-requires
+    receiver-requires
+    event-requires
     same-length
     returns)

@@ -41,7 +41,7 @@ use Rattle.record.specs.declared.Module.{Module}
 use Rattle.table.specs.Table.{blank}
 use Rattle.changes.specs.Changes.{switchedOff}
 use Rattle.standin.specs.Answer.{offAt}
-use Rattle.hanuzak.proofs.Rows.{offset-fits, set-past, settles}
+use Rattle.lent.proofs.Rows.{offset-fits, set-past, settles}
 use Rattle.record.proofs.Module as T
 use Rattle.record.proofs.Module.Laws as T′
 use Rattle.hanuzak.proofs.hanuzak_switch_off.Key.{name as #switch-off}

@@ -35,20 +35,20 @@ use denote.Exit.{yes}
 use Rattle.record.specs.declared.Module.{Module}
 use Rattle.table.specs.declared.Table.{Table}
 use Rattle.table.specs.Rule.{rule, keeps}
-use Rattle.hanuzak.specs.Loaded.{loaded}
-use Rattle.hanuzak.proofs.Asks.{asks}
-use Rattle.hanuzak.proofs.Loaded.{loaded-keeps}
+use Rattle.lent.specs.Loaded.{loaded}
+use Rattle.lent.proofs.Asks.{asks}
+use Rattle.lent.proofs.Loaded.{loaded-keeps}
 use Rattle.record.proofs.Module as T
 use Rattle.table.proofs.Table as L
 use Rattle.table.proofs.Table.Laws as L′
-use Rattle.hanuzak.proofs.load as load
-use Rattle.hanuzak.proofs.load.Symbol as load-def
-use Rattle.hanuzak.proofs.load.Symbol.{name as #load}
-use Rattle.hanuzak.proofs.load.Met as load-thm
-use Rattle.hanuzak.proofs.rule_number as number
-use Rattle.hanuzak.proofs.rule_number.Symbol as number-def
-use Rattle.hanuzak.proofs.rule_number.Symbol.{name as #number}
-use Rattle.hanuzak.proofs.rule_number.Met as number-thm
+use Rattle.lent.proofs.load as load
+use Rattle.lent.proofs.load.Symbol as load-def
+use Rattle.lent.proofs.load.Symbol.{name as #load}
+use Rattle.lent.proofs.load.Met as load-thm
+use Rattle.entries.proofs.rule_number as number
+use Rattle.entries.proofs.rule_number.Symbol as number-def
+use Rattle.entries.proofs.rule_number.Symbol.{name as #number}
+use Rattle.entries.proofs.rule_number.Met as number-thm
 use Rattle.hanuzak.proofs.hanuzak_table.Key.{name as #table}
 use Rattle.hanuzak.proofs.hanuzak_table as f
 use Rattle.hanuzak.proofs.hanuzak_table.Statement as stated
@@ -120,5 +120,5 @@ hanuzak-table-spec 𝓤 H 𝓜 𝓖 𝓡 =
     entered 𝓤 H (tripleOf 𝓤 H (𝓖 .A) f.signature (f.spec 𝓤 H (𝓖 .A) (𝓜 .mem) (𝓡 .run)))
     (tables 𝓤 H 𝓜 𝓡 code.env .C) (tables 𝓤 H 𝓜 𝓡 code.env .Λ) #table code.function (code.unfolded 𝓤 H 𝓜 𝓡)
     (hanuzak-table-meets 𝓤 H (𝓖 .A) (givenOf 𝓤 H 𝓜 𝓖) (𝓜 .mem) (𝓡 .run) (tablesOf 𝓤 H 𝓜 (tables 𝓤 H 𝓜 𝓡 code.env))
-    (cited 𝓤 H (Load 𝓤 H (𝓖 .A) (𝓜 .mem) (𝓡 .run)) 𝓜 𝓡 code.env #load load-def.routine code.calls-hanuzak·load (load-thm.met 𝓤 H 𝓜 𝓖 𝓡))
-    (cited 𝓤 H (Number 𝓤 H (𝓖 .A) (𝓜 .mem) (𝓡 .run)) 𝓜 𝓡 code.env #number number-def.routine code.calls-hanuzak·rule-number (number-thm.met 𝓤 H 𝓜 𝓖 𝓡)))
+    (cited 𝓤 H (Load 𝓤 H (𝓖 .A) (𝓜 .mem) (𝓡 .run)) 𝓜 𝓡 code.env #load load-def.routine code.calls-lent·load (load-thm.met 𝓤 H 𝓜 𝓖 𝓡))
+    (cited 𝓤 H (Number 𝓤 H (𝓖 .A) (𝓜 .mem) (𝓡 .run)) 𝓜 𝓡 code.env #number number-def.routine code.calls-entries·rule-number (number-thm.met 𝓤 H 𝓜 𝓖 𝓡)))

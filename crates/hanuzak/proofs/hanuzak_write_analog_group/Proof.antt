@@ -39,24 +39,24 @@ use Rattle.table.specs.declared.Table.{Table}
 use Rattle.table.specs.Table.{members}
 use Rattle.table.specs.Rule.{rule, keeps}
 use Rattle.groups.specs.Groups.{analogGroupWriting}
-use Rattle.hanuzak.specs.declared.FlatWritten.{FlatWritten}
-use Rattle.hanuzak.specs.Flat.{FlatWrites}
-use Rattle.hanuzak.specs.Loaded.{loaded}
-use Rattle.hanuzak.proofs.Asks.{asks}
+use Rattle.flat.specs.declared.FlatWritten.{FlatWritten}
+use Rattle.flat.specs.Flat.{FlatWrites}
+use Rattle.lent.specs.Loaded.{loaded}
+use Rattle.lent.proofs.Asks.{asks}
 use Rattle.hanuzak.proofs.Lent.{lent-analog}
 use Rattle.record.proofs.Module as T
 use Rattle.table.proofs.Table as L
 use Rattle.table.proofs.Table.Laws as L′
-use Rattle.hanuzak.proofs.FlatWritten as R
-use Rattle.hanuzak.proofs.FlatWritten.Laws as R′
-use Rattle.hanuzak.proofs.load as load
-use Rattle.hanuzak.proofs.load.Symbol as load-def
-use Rattle.hanuzak.proofs.load.Symbol.{name as #load}
-use Rattle.hanuzak.proofs.load.Met as load-thm
-use Rattle.hanuzak.proofs.analog_group as group
-use Rattle.hanuzak.proofs.analog_group.Symbol as group-def
-use Rattle.hanuzak.proofs.analog_group.Symbol.{name as #group}
-use Rattle.hanuzak.proofs.analog_group.Met as group-thm
+use Rattle.flat.proofs.FlatWritten as R
+use Rattle.flat.proofs.FlatWritten.Laws as R′
+use Rattle.lent.proofs.load as load
+use Rattle.lent.proofs.load.Symbol as load-def
+use Rattle.lent.proofs.load.Symbol.{name as #load}
+use Rattle.lent.proofs.load.Met as load-thm
+use Rattle.entries.proofs.analog_group as group
+use Rattle.entries.proofs.analog_group.Symbol as group-def
+use Rattle.entries.proofs.analog_group.Symbol.{name as #group}
+use Rattle.entries.proofs.analog_group.Met as group-thm
 use Rattle.hanuzak.proofs.hanuzak_write_analog_group.Key.{name as #write}
 use Rattle.hanuzak.proofs.hanuzak_write_analog_group as f
 use Rattle.hanuzak.proofs.hanuzak_write_analog_group.Statement as stated
@@ -157,5 +157,5 @@ hanuzak-write-analog-group-spec 𝓤 H 𝓜 𝓖 𝓡 =
     entered 𝓤 H (tripleOf 𝓤 H (𝓖 .A) f.signature (f.spec 𝓤 H (𝓖 .A) (𝓜 .mem) (𝓡 .run)))
     (tables 𝓤 H 𝓜 𝓡 code.env .C) (tables 𝓤 H 𝓜 𝓡 code.env .Λ) #write code.function (code.unfolded 𝓤 H 𝓜 𝓡)
     (group-meets 𝓤 H (𝓖 .A) (givenOf 𝓤 H 𝓜 𝓖) (𝓜 .mem) (𝓡 .run) (tablesOf 𝓤 H 𝓜 (tables 𝓤 H 𝓜 𝓡 code.env))
-    (cited 𝓤 H (Load 𝓤 H (𝓖 .A) (𝓜 .mem) (𝓡 .run)) 𝓜 𝓡 code.env #load load-def.routine code.calls-hanuzak·load (load-thm.met 𝓤 H 𝓜 𝓖 𝓡))
-    (cited 𝓤 H (Group 𝓤 H (𝓖 .A) (𝓜 .mem) (𝓡 .run)) 𝓜 𝓡 code.env #group group-def.routine code.calls-hanuzak·analog-group (group-thm.met 𝓤 H 𝓜 𝓖 𝓡)))
+    (cited 𝓤 H (Load 𝓤 H (𝓖 .A) (𝓜 .mem) (𝓡 .run)) 𝓜 𝓡 code.env #load load-def.routine code.calls-lent·load (load-thm.met 𝓤 H 𝓜 𝓖 𝓡))
+    (cited 𝓤 H (Group 𝓤 H (𝓖 .A) (𝓜 .mem) (𝓡 .run)) 𝓜 𝓡 code.env #group group-def.routine code.calls-entries·analog-group (group-thm.met 𝓤 H 𝓜 𝓖 𝓡)))

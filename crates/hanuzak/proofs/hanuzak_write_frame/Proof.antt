@@ -1,21 +1,21 @@
 -- The writer's answer, flattened.
 use borrow.Author.Needs.{needs}
-use Rattle.hanuzak.proofs.Flat.{flat-writes}
+use Rattle.flat.proofs.Flat.{flat-writes}
 use Rattle.hanuzak.proofs.hanuzak_write_frame.Statement.{statement}
 use Rattle.hanuzak.proofs.hanuzak_write_frame.Tie as tie
 
 write-requires : tie.Need-write-requires
 write-requires c κs = search needs
 
-flat-written-requires : tie.Need-flat-written-requires
-flat-written-requires c κs = search needs
+written-requires : tie.Need-written-requires
+written-requires c κs = search needs
 
 same-length : tie.Need-same-length
 same-length c = search needs
 
 returns : tie.Need-returns
-returns c = flat-writes _ (c .before .before .before .write .result) (c .before .before .before .write .last .1 .1 .0) (c .flat-written .result) (c .before .before .before .write .ensures) (c .flat-written .ensures)
+returns c = flat-writes _ (c .before .before .before .write .result) (c .before .before .before .write .last .1 .1 .0) (c .written .result) (c .before .before .before .write .ensures) (c .written .ensures)
 
 pub hanuzak-write-frame-spec : {M : Type 1} → statement M
 hanuzak-write-frame-spec =
-    tie.close (tie.spec write-requires flat-written-requires same-length returns)
+    tie.close (tie.spec write-requires written-requires same-length returns)

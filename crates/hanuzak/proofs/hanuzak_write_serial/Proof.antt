@@ -1,21 +1,21 @@
 -- The writer's answer, flattened.
 use borrow.Author.Needs.{needs}
-use Rattle.hanuzak.proofs.Flat.{flat-writes}
+use Rattle.flat.proofs.Flat.{flat-writes}
 use Rattle.hanuzak.proofs.hanuzak_write_serial.Statement.{statement}
 use Rattle.hanuzak.proofs.hanuzak_write_serial.Tie as tie
 
 write-serial-requires : tie.Need-write-serial-requires
 write-serial-requires c κs = search needs
 
-flat-written-requires : tie.Need-flat-written-requires
-flat-written-requires c κs = search needs
+written-requires : tie.Need-written-requires
+written-requires c κs = search needs
 
 same-length : tie.Need-same-length
 same-length c = search needs
 
 returns : tie.Need-returns
-returns c = flat-writes _ (c .before .before .before .write-serial .result) (c .before .before .before .write-serial .last .0) (c .flat-written .result) (c .before .before .before .write-serial .ensures) (c .flat-written .ensures)
+returns c = flat-writes _ (c .before .before .before .write-serial .result) (c .before .before .before .write-serial .last .0) (c .written .result) (c .before .before .before .write-serial .ensures) (c .written .ensures)
 
 pub hanuzak-write-serial-spec : {M : Type 1} → statement M
 hanuzak-write-serial-spec =
-    tie.close (tie.spec write-serial-requires flat-written-requires same-length returns)
+    tie.close (tie.spec write-serial-requires written-requires same-length returns)

@@ -1,21 +1,21 @@
 -- The writer's answer, flattened.
 use borrow.Author.Needs.{needs}
-use Rattle.hanuzak.proofs.Flat.{flat-writes}
+use Rattle.flat.proofs.Flat.{flat-writes}
 use Rattle.hanuzak.proofs.hanuzak_write_version.Statement.{statement}
 use Rattle.hanuzak.proofs.hanuzak_write_version.Tie as tie
 
 write-version-requires : tie.Need-write-version-requires
 write-version-requires c κs = search needs
 
-flat-written-requires : tie.Need-flat-written-requires
-flat-written-requires c κs = search needs
+written-requires : tie.Need-written-requires
+written-requires c κs = search needs
 
 same-length : tie.Need-same-length
 same-length c = search needs
 
 returns : tie.Need-returns
-returns c = flat-writes _ (c .before .before .before .write-version .result) (c .before .before .before .write-version .last .0) (c .flat-written .result) (c .before .before .before .write-version .ensures) (c .flat-written .ensures)
+returns c = flat-writes _ (c .before .before .before .write-version .result) (c .before .before .before .write-version .last .0) (c .written .result) (c .before .before .before .write-version .ensures) (c .written .ensures)
 
 pub hanuzak-write-version-spec : {M : Type 1} → statement M
 hanuzak-write-version-spec =
-    tie.close (tie.spec write-version-requires flat-written-requires same-length returns)
+    tie.close (tie.spec write-version-requires written-requires same-length returns)
