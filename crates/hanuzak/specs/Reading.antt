@@ -5,7 +5,7 @@ use Prim.Native.Nat.{ℕ}
 use Rattle.record.specs.declared.Module.{Module}
 use Rattle.table.specs.Table.{members}
 use Rattle.table.specs.Rule.{rule}
-use Rattle.reply.specs.declared.Question.{Question}
+use Rattle.gate.specs.declared.Question.{Question}
 use Rattle.reply.specs.Read as Read
 use Rattle.hanuzak.specs.declared.FlatReply.{FlatReply}
 use Rattle.hanuzak.specs.declared.ReadReply.{ReadReply}
