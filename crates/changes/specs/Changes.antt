@@ -30,9 +30,13 @@ withVersion v m = record { adr = m .adr; on = m .on; «link_fault» = m .«link_
 abbrev pub switchedOff : Module → Module
 switchedOff m = record { adr = m .adr; on = 0; «link_fault» = m .«link_fault»; analog = m .analog; alarm = m .alarm; limits = m .limits; serial = m .serial; version = m .version }
 
--- the record with an ADR changed; where there is none, nothing is
+-- a record in the place of the one with an ADR; where there is none, nothing changes
+abbrev pub stored : ℕ → Module → List Module → List Module
+stored adr m ms = set ms (placeOf adr ms) m
+
+-- the record with an ADR changed
 unfoldable pub replaced : ℕ → (Module → Module) → List Module → List Module
-replaced adr f ms = set ms (placeOf adr ms) (f (memberAt adr ms))
+replaced adr f ms = stored adr (f (memberAt adr ms)) ms
 
 -- a member that is on takes a value where one is given
 abbrev pub fitted : {A : Type 0} → (A → Module → Module) → Module → Bool → A → Module

@@ -12,7 +12,7 @@ ghost use Rattle.entries.specs.Entries.{Serves, ReadsFlat};
 use flat::FlatAnswered;
 use flat::FlatReply;
 use flat::FlatWritten;
-use reply::Question;
+use gate::Question;
 use table::Station;
 use table::Table;
 

@@ -12,7 +12,7 @@ use Rattle.record.specs.declared.Module.{Module}
 use Rattle.table.specs.declared.Station.{Station}
 use Rattle.table.specs.declared.Table.{Table}
 use Rattle.table.specs.Table.{blank, members}
-use Rattle.reply.specs.declared.Question.{Question}
+use Rattle.gate.specs.declared.Question.{Question}
 use Rattle.reply.specs.Read.{Left, readReply}
 use Rattle.table.specs.Rule.{rule, keeps}
 use Rattle.groups.specs.Groups.{analogGroupWriting, alarmGroupWriting}

@@ -4,7 +4,7 @@ use mathlib.Core.List.{List}
 use Prim.Native.Nat.{ℕ}
 use Rattle.record.specs.declared.Module.{Module}
 use Rattle.table.specs.Rule.{rule}
-use Rattle.reply.specs.declared.Question.{Question}
+use Rattle.gate.specs.declared.Question.{Question}
 use Rattle.reply.specs.Read as Read
 use Rattle.flat.specs.declared.FlatReply.{FlatReply}
 use Rattle.flat.specs.Flat.{replyOf}

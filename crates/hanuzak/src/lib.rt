@@ -31,7 +31,7 @@ use frame::Header;
 use listing::Listing;
 use receiver::Receiver;
 use record::Module;
-use reply::Question;
+use gate::Question;
 use table::Station;
 
 // ---- one record of the lent table

@@ -22,12 +22,12 @@ use Rattle.command.specs.declared.Kind.{Kind}
 use Rattle.command.specs.declared.Kind.the-variants.{Analog, AnalogGroup, Alarm, AlarmGroup, Protocol, Maker, Limits, Serial, TurnOff, Version, Unserved}
 use Rattle.command.specs.Command.{kindOf, formOf, termsOf}
 use Rattle.command.specs.Heard.{Words, numberOf, words}
-use Rattle.standin.specs.declared.Said.the-variants.{Code}
-use Rattle.standin.specs.Says.{decide}
+use Rattle.says.specs.declared.Said.the-variants.{Code}
+use Rattle.says.specs.Says.{decide}
 use Rattle.standin.specs.Answer.{kindAsked}
 use Rattle.standin.proofs.Members.{member-adr, member-fine}
-use Rattle.reply.specs.declared.Question.{Question}
-use Rattle.reply.specs.Gate.{asks}
+use Rattle.gate.specs.declared.Question.{Question}
+use Rattle.gate.specs.Gate.{asks}
 use Rattle.meet.specs.Asked.{questionHeader, questionInfo, asking, AskedBytes, faultFor}
 use Rattle.meet.proofs.Meet.{wordsFor, words-of}
 

@@ -11,10 +11,10 @@ use Rattle.table.specs.declared.Station.{Station}
 use Rattle.table.specs.Table.{isOn, hasFault, isMaster, memberAt, anyFault}
 use Rattle.command.specs.Command.{kindOf, termsOf}
 use Rattle.command.specs.Heard.{Words, numberOf}
-use Rattle.standin.specs.declared.Said.{Said}
-use Rattle.standin.specs.declared.Said.the-variants.{Silent, Code}
-use Rattle.standin.specs.Says.{decide}
-use Rattle.reply.specs.Gate.{isCode}
+use Rattle.says.specs.declared.Said.{Said}
+use Rattle.says.specs.declared.Said.the-variants.{Silent, Code}
+use Rattle.says.specs.Says.{decide}
+use Rattle.gate.specs.Gate.{isCode}
 
 abbrev pub Known : ℕ → Type 0
 Known code = (isCode code ≡ true) × (code < 256)

@@ -25,18 +25,18 @@ use Rattle.table.specs.Rule.{rule, keeps}
 use Rattle.command.specs.declared.Kind.{Kind}
 use Rattle.command.specs.Command.{kindOf, formOf, termsOf}
 use Rattle.command.specs.Heard.{Words, words}
-use Rattle.standin.specs.declared.Said.{Said}
-use Rattle.standin.specs.declared.Said.the-variants.{Silent, Code}
+use Rattle.says.specs.declared.Said.{Said}
+use Rattle.says.specs.declared.Said.the-variants.{Silent, Code}
 use Rattle.standin.specs.declared.Answered.{Answered}
 use Rattle.standin.specs.declared.Answered.the-variants.{Reply}
 use Rattle.standin.specs.declared.Replied.{Replied}
-use Rattle.standin.specs.Says.{decide}
+use Rattle.says.specs.Says.{decide}
 use Rattle.standin.specs.Answer as Answer
 use Rattle.standin.specs.Answer.{infoBy, kindAsked, infoFor, replyHeader, written, says, answer, Answers}
 use Rattle.standin.proofs.Replies.{said-on}
-use Rattle.reply.specs.declared.Question.{Question}
+use Rattle.gate.specs.declared.Question.{Question}
 use Rattle.reply.specs.declared.Reading.{Reading}
-use Rattle.reply.specs.Gate.{isCode, asks, gate, frameGate}
+use Rattle.gate.specs.Gate.{isCode, asks, gate, frameGate}
 use Rattle.reply.specs.Read.{Left, leaves, read, paper, took, given, readReply, Reads}
 use Rattle.reply.proofs.Ways.{way-open}
 use Rattle.meet.specs.Copied.{OfBytes, copied, makerFor, readBack, Alike}

@@ -18,9 +18,9 @@ use Rattle.command.specs.declared.Kind.{Kind}
 use Rattle.command.specs.declared.Kind.the-variants.{Analog, AnalogGroup, Alarm, AlarmGroup, Protocol, Maker, Limits, Serial, TurnOff, Version, Unserved}
 use Rattle.command.specs.Heard.{Words, numberOf}
 use Rattle.changes.specs.Changes.{switchedOff}
-use Rattle.standin.specs.declared.Said.{Said}
-use Rattle.standin.specs.declared.Said.the-variants.{Silent}
-use Rattle.standin.specs.Says.{decide}
+use Rattle.says.specs.declared.Said.{Said}
+use Rattle.says.specs.declared.Said.the-variants.{Silent}
+use Rattle.says.specs.Says.{decide}
 use Rattle.standin.specs.Answer.{kindAsked, offBy, offFor, offAt}
 use Rattle.meet.specs.Off.{TurnedOff}
 use Rattle.meet.proofs.Kept.{Changed, set-changed, off-safe, off-rule}

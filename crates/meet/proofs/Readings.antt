@@ -32,9 +32,9 @@ use Rattle.command.specs.declared.Kind.{Kind}
 use Rattle.command.specs.declared.Kind.the-variants.{Analog, AnalogGroup, Alarm, AlarmGroup, Protocol, Maker, Limits, Serial, TurnOff, Version, Unserved}
 use Rattle.command.specs.Command.{formOf}
 use Rattle.command.specs.Heard.{words}
-use Rattle.reply.specs.declared.Question.{Question}
+use Rattle.gate.specs.declared.Question.{Question}
 use Rattle.reply.specs.declared.Reading.{Reading}
-use Rattle.reply.specs.Gate.{gate}
+use Rattle.gate.specs.Gate.{gate}
 use Rattle.reply.specs.Read.{Data, Left, took, forAll, given, readReply, Reads}
 use Rattle.meet.proofs.Kept.{Oks, replaced-rule, dealt-rule, analog-safe, alarm-safe, limits-safe, serial-safe, version-safe}
 

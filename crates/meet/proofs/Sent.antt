@@ -21,8 +21,8 @@ use Rattle.record.specs.declared.Module.{Module}
 use Rattle.table.specs.declared.Station.{Station}
 use Rattle.table.specs.Rule.{rule}
 use Rattle.command.specs.Heard.{Words, words}
-use Rattle.standin.specs.declared.Said.the-variants.{Code}
-use Rattle.standin.specs.Says.{decide}
+use Rattle.says.specs.declared.Said.the-variants.{Code}
+use Rattle.says.specs.Says.{decide}
 use Rattle.standin.specs.Answer.{kindAsked, infoFor, replyHeader}
 use Rattle.standin.proofs.Filled.{info-length}
 use Rattle.standin.proofs.Replies.{said-on}

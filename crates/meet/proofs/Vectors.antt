@@ -21,10 +21,10 @@ use Rattle.table.specs.Table.{placeOf, hasMember, memberAt, isMaster, anyFault}
 use Rattle.table.specs.Rule.{encodable, fine, rising, rule}
 use Rattle.command.specs.Command.{kindOf, formOf, termsOf}
 use Rattle.command.specs.Heard.{numberOf, words}
-use Rattle.standin.specs.declared.Said.the-variants.{Code}
-use Rattle.standin.specs.Says.{decide}
+use Rattle.says.specs.declared.Said.the-variants.{Code}
+use Rattle.says.specs.Says.{decide}
 use Rattle.standin.specs.Answer.{infoBy, infoFor, replyHeader}
-use Rattle.reply.specs.Gate.{asks}
+use Rattle.gate.specs.Gate.{asks}
 use Rattle.meet.specs.Copied.{OfBytes}
 
 -- the master of a group of one, on, with one cell and one temperature

@@ -20,9 +20,9 @@ use Rattle.infos.specs.Nothing.{noMaker}
 use Rattle.table.specs.declared.Table.{Table}
 use Rattle.table.specs.Table.{members, hasMember}
 use Rattle.command.specs.Heard.{Words, words}
-use Rattle.reply.specs.declared.Question.{Question}
+use Rattle.gate.specs.declared.Question.{Question}
 use Rattle.reply.specs.declared.Reading.{Reading}
-use Rattle.reply.specs.Gate.{gate, judgedFirst, asks, frameGate}
+use Rattle.gate.specs.Gate.{gate, judgedFirst, asks, frameGate}
 use Rattle.reply.specs.Read.{Left, leaves, read, refused, took, given, byCode, unless, readReply, Reads}
 
 -- no refusal has number 0

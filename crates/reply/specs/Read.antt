@@ -20,11 +20,11 @@ use Rattle.command.specs.declared.Kind.{Kind}
 use Rattle.command.specs.declared.Kind.the-variants.{Analog, AnalogGroup, Alarm, AlarmGroup, Protocol, Maker, Limits, Serial, TurnOff, Version, Unserved}
 use Rattle.command.specs.Command.{formOf}
 use Rattle.command.specs.Heard.{Words, words}
-use Rattle.reply.specs.declared.Question.{Question}
+use Rattle.gate.specs.declared.Question.{Question}
 use Rattle.reply.specs.declared.Outcome.{Outcome}
 use Rattle.reply.specs.declared.Outcome.the-variants.{Read, Refused}
 use Rattle.reply.specs.declared.Reading.{Reading}
-use Rattle.reply.specs.Gate.{gate}
+use Rattle.gate.specs.Gate.{gate}
 
 -- the flag, the 32 bytes of 51H (zeros for every other command), and the records then
 abbrev pub Data : Type 0

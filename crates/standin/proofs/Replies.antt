@@ -23,9 +23,9 @@ use Rattle.record.specs.declared.Module.{Module}
 use Rattle.table.specs.declared.Station.{Station}
 use Rattle.table.specs.Table.{isOn, memberAt}
 use Rattle.command.specs.Heard.{Words, numberOf, words}
-use Rattle.standin.specs.declared.Said.{Said}
-use Rattle.standin.specs.declared.Said.the-variants.{Silent, Code}
-use Rattle.standin.specs.Says.{decide}
+use Rattle.says.specs.declared.Said.{Said}
+use Rattle.says.specs.declared.Said.the-variants.{Silent, Code}
+use Rattle.says.specs.Says.{decide}
 use Rattle.standin.specs.Answer as Answer
 use Rattle.standin.specs.Answer.{infoBy, kindAsked, infoFor, replyHeader, offBy, offFor, reply, silence, leaves, written, says, answer}
 use Rattle.standin.proofs.Filled.{filled}

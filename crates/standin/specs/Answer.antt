@@ -18,12 +18,12 @@ use Rattle.command.specs.Command.{formOf}
 use Rattle.command.specs.Heard.{Words, words}
 use Rattle.changes.specs.Changes.{switchedOff}
 use Rattle.groups.specs.Groups.{analogsOn, alarmsOn}
-use Rattle.standin.specs.declared.Said.{Said}
-use Rattle.standin.specs.declared.Said.the-variants.{Silent, Code}
+use Rattle.says.specs.declared.Said.{Said}
+use Rattle.says.specs.declared.Said.the-variants.{Silent, Code}
 use Rattle.standin.specs.declared.Answered.{Answered}
 use Rattle.standin.specs.declared.Answered.the-variants.{Silence, Reply, Refused}
 use Rattle.standin.specs.declared.Replied.{Replied}
-use Rattle.standin.specs.Says.{decide}
+use Rattle.says.specs.Says.{decide}
 
 -- the data of each command; the flag is 00H
 unfoldable pub infoBy : Kind → Station → List Module → ℕ → List ℕ

@@ -38,7 +38,7 @@ use denote.Triple.Table.{entered, cited}
 use denote.Triple.Walked.{says, Stays, stay-dropped, gave-slice, walkOf, goes-dropped, goes-gave-slice, Walks, ends-at, walked, walk-meets}
 use denote.Exit.{yes}
 use Rattle.record.specs.declared.Module.{Module}
-use Rattle.reply.specs.declared.Question.{Question}
+use Rattle.gate.specs.declared.Question.{Question}
 use Rattle.table.specs.declared.Table.{Table}
 use Rattle.table.specs.Table.{members}
 use Rattle.table.specs.Rule.{keeps}
@@ -55,8 +55,8 @@ use Rattle.hanuzak.proofs.Lent.{lent-reading}
 use Rattle.record.proofs.Module as T
 use Rattle.table.proofs.Table as L
 use Rattle.table.proofs.Table.Laws as L′
-use Rattle.reply.proofs.Question as S
-use Rattle.reply.proofs.Question.Laws as S′
+use Rattle.gate.proofs.Question as S
+use Rattle.gate.proofs.Question.Laws as S′
 use Rattle.flat.proofs.FlatReply as R
 use Rattle.flat.proofs.FlatReply.Laws as R′
 use Rattle.entries.proofs.ReadReply as G

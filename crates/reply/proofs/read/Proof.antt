@@ -7,7 +7,7 @@ use borrow.Author.Needs.{needs}
 use Rattle.reply.proofs.Ways.{way-broken, way-refused, way-open}
 use Rattle.reply.proofs.Taking.{not-read}
 use Rattle.reply.specs.Read.{given, readReply, Reads}
-use Rattle.reply.specs.Gate.{paper, gate}
+use Rattle.gate.specs.Gate.{paper, gate}
 use Rattle.command.specs.Heard.{wordsOf, words}
 use Rattle.table.specs.Rule.{keeps}
 use Rattle.table.specs.Table.{members}

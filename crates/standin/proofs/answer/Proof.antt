@@ -6,7 +6,7 @@ use borrow.Author.Tests.{not-true, not-false}
 use borrow.Author.Needs.{needs}
 use Rattle.standin.proofs.Replies.{answer-short, answer-broken, answer-says, says-silent}
 use Rattle.standin.specs.Answer.{says}
-use Rattle.standin.specs.Says.{decide}
+use Rattle.says.specs.Says.{decide}
 use Rattle.command.specs.Heard.{wordsOf}
 use Rattle.table.specs.Rule.{keeps}
 use Rattle.table.specs.Table.{members}

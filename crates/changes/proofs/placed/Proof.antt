@@ -1,0 +1,31 @@
+-- The record is stored at its place, or there is none.
+use mathlib.Core.Path.{sym, _∙_}
+use native.Mathlib.Omega.{arith}
+use borrow.Author.Needs.{needs}
+use Rattle.changes.proofs.Storing.{in-range, there, not-there}
+use Rattle.table.proofs.Members.{at-most-twelve}
+use Rattle.table.proofs.Twelve.{twelve}
+use Rattle.table.specs.Table.{members}
+use Rattle.changes.proofs.placed.Statement.{statement}
+use Rattle.changes.proofs.placed.Tie as tie
+
+place-of-requires : tie.Need-place-of-requires
+place-of-requires c κs = search needs
+
+has-member-requires : tie.Need-has-member-requires
+has-member-requires c κs = search needs
+
+mul-member : tie.Need-mul-member
+mul-member c = omega (arith, in-range (c .before .before .before .args .adr) (members (c .before .before .before .args .table)) (c .before .before .place-of .result) (c .before .before .place-of .ensures) (sym (c .before .has-member .ensures) ∙ c .if1 .taken), at-most-twelve (c .before .before .before .args .table) (twelve (c .before .before .before .args .table) _ (c .before .before .before .good .0)))
+
+element-set-from-member : tie.Need-element-set-from-member
+element-set-from-member c = omega (arith, in-range (c .before .before .before .args .adr) (members (c .before .before .before .args .table)) (c .before .before .place-of .result) (c .before .before .place-of .ensures) (sym (c .before .has-member .ensures) ∙ c .if1 .taken), at-most-twelve (c .before .before .before .args .table) (twelve (c .before .before .before .args .table) _ (c .before .before .before .good .0)))
+
+returns : tie.Need-returns
+returns c = there (c .before .before .before .args .table) (c .before .before .before .args .adr) (c .before .before .before .args .member) (c .before .before .place-of .result) (c .before .before .place-of .ensures) (sym (c .before .has-member .ensures) ∙ c .if1 .taken)
+
+returns-2 : tie.Need-returns-2
+returns-2 c = not-there (c .before .before .before .args .table) (c .before .before .before .args .adr) (c .before .before .before .args .member) (sym (c .before .has-member .ensures) ∙ c .if1 .left)
+
+pub placed-spec : {M : Type 1} → statement M
+placed-spec = tie.close (tie.spec place-of-requires has-member-requires mul-member element-set-from-member returns returns-2)
