@@ -150,7 +150,7 @@ static void same_module(hanuzak_module module, hanuzak_module should)
 
 /* ---- written: the fields as bytes, in the paper's order */
 
-static uint8_t out[HANUZAK_ANSWER];
+static uint8_t out[HANUZAK_LISTING + 200]; /* room for the lines of two events */
 static size_t  place; /* of the next byte of INFO in out */
 
 static void written(hanuzak_written written, size_t length)
@@ -416,28 +416,82 @@ static void stepped(void)
 }
 
 /* Six bytes of noise, a frame, a stretch that is too short, and the beginning of another. */
-static void ran(void)
+static void stream(uint8_t piece[40])
 {
-    uint8_t     store[HANUZAK_STORE], piece[64];
-    size_t      n = 6 + 24 + 4 + 6;
-    hanuzak_ran ran;
-
-    memset(store, '.', sizeof store);
     memcpy(piece, "noise.", 6);
     memcpy(piece + 6, FRAME, 24);
     memcpy(piece + 30, "~12\r~ABCDE", 10);
-    ran = hanuzak_run(hanuzak_receiver_new(), store, sizeof store, piece, n);
+}
+
+static void ran(void)
+{
+    uint8_t     store[HANUZAK_STORE], piece[40];
+    hanuzak_ran ran;
+
+    memset(store, '.', sizeof store);
+    stream(piece);
+    ran = hanuzak_run(hanuzak_receiver_new(), store, sizeof store, piece, 40);
     same_receiver(ran.next, 0, 0);
     same_header(ran.event);
     SAME(ran.taken, 30);
-    ran = hanuzak_run(ran.next, store, sizeof store, piece + 30, n - 30);
+    ran = hanuzak_run(ran.next, store, sizeof store, piece + 30, 10);
     same_receiver(ran.next, 0, 0);
     same_event(ran.event, 2, 3);
     SAME(ran.taken, 4);
-    ran = hanuzak_run(ran.next, store, sizeof store, piece + 34, n - 34);
+    ran = hanuzak_run(ran.next, store, sizeof store, piece + 34, 6);
     same_receiver(ran.next, 1, 5);
     same_event(ran.event, 0, 0);
     SAME(ran.taken, 6);
+}
+
+/* ---- the listing */
+
+static void same_listing(hanuzak_listing listing, uint32_t offset, uint32_t frames, uint32_t refusals)
+{
+    SAME(listing.offset, offset);
+    SAME(listing.frames, frames);
+    SAME(listing.refusals, refusals);
+}
+
+static void same_text(hanuzak_written written, const char *text)
+{
+    SAME(written.number, 0);
+    SAME(written.length, strlen(text));
+    for (size_t i = 0; i < strlen(text); i++)
+        same_at("text", i, out[i], (uint8_t)text[i]);
+}
+
+/* Far on in a capture, so that the offset and the totals differ. */
+static void listed(void)
+{
+    uint8_t         store[HANUZAK_STORE], piece[40];
+    hanuzak_listing listing = hanuzak_listing_new();
+    hanuzak_listed  listed;
+
+    memset(store, '.', sizeof store);
+    stream(piece);
+    same_receiver(listing.receiver, 0, 0);
+    same_listing(listing, 0, 0, 0);
+    listing.offset = 1000;
+    listing.frames = 70000;
+    listing.refusals = 300;
+    listed = hanuzak_list(listing, store, sizeof store, piece, 40, out, HANUZAK_LISTING - 1);
+    same_receiver(listed.next.receiver, 0, 0);
+    same_listing(listed.next, 1000, 70000, 300);
+    SAME(listed.taken, 0);
+    SAME(listed.written.number, 32);
+    SAME(listed.written.length, 0);
+    listed = hanuzak_list(listing, store, sizeof store, piece, 40, out, sizeof out);
+    same_receiver(listed.next.receiver, 1, 5);
+    same_listing(listed.next, 1040, 70001, 301);
+    SAME(listed.taken, 40);
+    same_text(listed.written, "at=1006\nver=11\nadr=22\ncid1=33\ncid2=44\ninfo=5AC30F\nat=1030\nrefused=3\n");
+    same_text(hanuzak_list_close(listed.next, out, HANUZAK_CLOSING), "frames=70001\nrefusals=301\n");
+    listing.receiver.open = 1;
+    listing.receiver.count = 4111;
+    listed = hanuzak_list(listing, store, sizeof store, piece, 40, out, sizeof out);
+    same_receiver(listed.next.receiver, 1, 4111);
+    SAME(listed.written.number, 35);
 }
 
 /* ---- the stand-in and the reply reader */
@@ -654,6 +708,7 @@ int main(void)
     frame_written();
     stepped();
     ran();
+    listed();
     maker_answered();
     records_read();
     group_read();
