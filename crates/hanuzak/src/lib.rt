@@ -28,10 +28,10 @@ use flat::FlatReply;
 use flat::FlatStepped;
 use flat::FlatWritten;
 use frame::Header;
+use gate::Question;
 use listing::Listing;
 use receiver::Receiver;
 use record::Module;
-use gate::Question;
 use table::Station;
 
 // ---- one record of the lent table
