@@ -1,4 +1,4 @@
--- The paper's line 4FH over a closed table, computed: the theorems' hypotheses can be met.
+-- The paper's line 4FH, and a 95H, over a closed table, computed: the theorems' hypotheses can be met.
 use mathlib.Core.Path.{_≡_, refl}
 use mathlib.Core.Bool.{true}
 use mathlib.Core.List.{List, [], _∷_}
@@ -21,9 +21,10 @@ use Rattle.table.specs.Table.{placeOf, hasMember, memberAt, isMaster, anyFault}
 use Rattle.table.specs.Rule.{encodable, fine, rising, rule}
 use Rattle.command.specs.Command.{kindOf, formOf, termsOf}
 use Rattle.command.specs.Heard.{numberOf, words}
-use Rattle.says.specs.declared.Said.the-variants.{Code}
+use Rattle.says.specs.declared.Said.the-variants.{Silent, Code}
 use Rattle.says.specs.Says.{decide}
-use Rattle.standin.specs.Answer.{infoBy, infoFor, replyHeader}
+use Rattle.changes.specs.Changes.{switchedOff}
+use Rattle.standin.specs.Answer.{infoBy, infoFor, replyHeader, offBy, offFor, offAt}
 use Rattle.gate.specs.Gate.{asks}
 use Rattle.meet.specs.Copied.{OfBytes}
 
@@ -95,3 +96,22 @@ asked = refl
 pub there : hasMember 2 (master ∷ []) ≡ true
 unfolding hasMember placeOf
 there = refl
+
+-- ---- 95H: answered, then silence
+
+-- the characters of `21024695E00202FD2A`
+abbrev pub turn-off : List ℕ
+turn-off = 50 ∷ 49 ∷ 48 ∷ 50 ∷ 52 ∷ 54 ∷ 57 ∷ 53 ∷ 69 ∷ 48 ∷ 48 ∷ 50 ∷ 48 ∷ 50 ∷ 70 ∷ 68 ∷ 50 ∷ 65 ∷ []
+
+pub off-says-00 : decide station (master ∷ []) (words turn-off) ≡ Code 0
+unfolding decide words judge need header lenid allHex isHex digitOf byteOf byteAt wordAt lchksum sum chksum numberOf memberAt placeOf kindOf termsOf isMaster anyFault
+off-says-00 = refl
+
+-- that one module is off, and all else as it was
+pub off-after : offAt (offFor (master ∷ []) (words turn-off) 0) (master ∷ []) ≡ switchedOff master ∷ []
+unfolding offAt offFor offBy formOf kindOf words judge need header lenid allHex isHex digitOf byteOf byteAt wordAt lchksum sum chksum placeOf
+off-after = refl
+
+pub then-silent : decide station (switchedOff master ∷ []) (words turn-off) ≡ Silent
+unfolding decide words judge need header lenid allHex isHex digitOf byteOf byteAt wordAt lchksum sum chksum numberOf memberAt placeOf
+then-silent = refl
