@@ -1,0 +1,248 @@
+//! What the reference returns and leaves, said in the header's structs: "where a field has no value
+//! it is 0".
+
+use crate::case::{Case, Group, Kind, Outcome, Returned};
+use crate::records::{linked_of, reference_of, references_of};
+use linked::{Answered, Event, Module, Ran, Receiver, Reply, Stepped, Written};
+use reference::{Header, Number};
+
+fn refused(number: Number) -> Event {
+    Event {
+        kind: 2,
+        number: u32::from(number),
+        ..Event::default()
+    }
+}
+
+fn frame(frame: reference::Frame) -> Event {
+    Event {
+        kind: 1,
+        number: 0,
+        ver: frame.header.ver,
+        adr: frame.header.adr,
+        cid1: frame.header.cid1,
+        cid2: frame.header.cid2,
+        lenid: frame.lenid,
+    }
+}
+
+fn event(event: reference::Event) -> Event {
+    match event {
+        reference::Event::Nothing => Event::default(),
+        reference::Event::Frame(heard) => frame(heard),
+        reference::Event::Refused(number) => refused(number),
+    }
+}
+
+/// "open 0 is waiting, whatever the count; any other value is open".
+fn receiver_of(receiver: Receiver) -> reference::Receiver {
+    match receiver.open {
+        0 => reference::Receiver::Waiting,
+        _ => reference::Receiver::Open(receiver.count),
+    }
+}
+
+/// "open as 0 or 1, and count 0 where it waits".
+fn receiver(receiver: reference::Receiver) -> Receiver {
+    match receiver {
+        reference::Receiver::Waiting => Receiver { open: 0, count: 0 },
+        reference::Receiver::Open(count) => Receiver { open: 1, count },
+    }
+}
+
+fn written(result: Result<usize, Number>) -> Returned {
+    Returned::Written(match result {
+        Ok(length) => Written { number: 0, length },
+        Err(number) => Written {
+            number: u32::from(number),
+            length: 0,
+        },
+    })
+}
+
+fn answered(answer: reference::Answer) -> Answered {
+    match answer {
+        reference::Answer::Silence => Answered::default(),
+        reference::Answer::Reply(length) => Answered {
+            kind: 1,
+            number: 0,
+            length,
+        },
+        reference::Answer::Refused(number) => Answered {
+            kind: 2,
+            number: u32::from(number),
+            length: 0,
+        },
+    }
+}
+
+fn reply(result: Result<reference::Reply, Number>) -> Reply {
+    match result {
+        Ok(read) => Reply {
+            kind: 1,
+            number: 0,
+            ver: read.ver,
+            code: read.code,
+            flag: read.flag.unwrap_or(0),
+            maker: read.maker.unwrap_or([0; 32]),
+        },
+        Err(number) => Reply {
+            kind: 2,
+            number: u32::from(number),
+            ver: 0,
+            code: 0,
+            flag: 0,
+            maker: [0; 32],
+        },
+    }
+}
+
+fn with_bytes(given: &[u8], call: impl FnOnce(&mut [u8]) -> Returned) -> Outcome {
+    let mut bytes = given.to_vec();
+    let returned = call(&mut bytes);
+    Outcome {
+        bytes,
+        ..Outcome::of(returned)
+    }
+}
+
+fn with_table(
+    given: &[Module],
+    call: impl FnOnce(&mut [reference::Module]) -> Returned,
+) -> Outcome {
+    let mut table = references_of(given);
+    let returned = call(&mut table);
+    Outcome {
+        table: table.iter().map(linked_of).collect(),
+        ..Outcome::of(returned)
+    }
+}
+
+/// Calls the reference.
+pub fn outcome(case: &Case) -> Outcome {
+    match case {
+        Case::Judge { stretch } => Outcome::of(Returned::Event(match reference::judge(stretch) {
+            Ok(heard) => frame(heard),
+            Err(number) => refused(number),
+        })),
+        Case::ReceiverNew => {
+            let fresh = reference::Receiver::default();
+            Outcome::of(Returned::Receiver(receiver(fresh)))
+        }
+        Case::Step {
+            receiver: before,
+            store,
+            byte,
+        } => with_bytes(store, |store| {
+            let (next, seen) = reference::step(receiver_of(*before), store, *byte);
+            Returned::Stepped(Stepped {
+                next: receiver(next),
+                event: event(seen),
+            })
+        }),
+        Case::Run {
+            receiver: before,
+            store,
+            piece,
+        } => with_bytes(store, |store| {
+            let ran = reference::run(receiver_of(*before), store, piece);
+            Returned::Ran(Ran {
+                next: receiver(ran.next),
+                event: event(ran.event),
+                taken: ran.taken,
+            })
+        }),
+        Case::WriteFrame { header, info, out } => with_bytes(out, |out| {
+            let [ver, adr, cid1, cid2] = *header;
+            let header = Header {
+                ver,
+                adr,
+                cid1,
+                cid2,
+            };
+            written(reference::write_frame(header, info, out))
+        }),
+        Case::WriteRecord {
+            kind,
+            module,
+            flag,
+            out,
+        } => with_bytes(out, |out| {
+            let module = &reference_of(module);
+            written(match kind {
+                Kind::Analog => reference::write_analog(module, *flag, out),
+                Kind::Alarm => reference::write_alarm(module, *flag, out),
+                Kind::Limits => reference::write_limits(module, out),
+                Kind::Serial => reference::write_serial(module, out),
+                Kind::Version => reference::write_version(module, out),
+            })
+        }),
+        Case::WriteGroup {
+            group,
+            table,
+            flag,
+            out,
+        } => with_bytes(out, |out| {
+            let table = &references_of(table);
+            written(match group {
+                Group::Analog => reference::write_analog_group(table, *flag, out),
+                Group::Alarm => reference::write_alarm_group(table, *flag, out),
+            })
+        }),
+        Case::Table { table } => {
+            let rule = reference::rule(&references_of(table));
+            Outcome::of(Returned::Number(rule.err().unwrap_or(0)))
+        }
+        Case::Record { table, at, other } => {
+            let found = table.get(*at).unwrap_or(other);
+            Outcome::of(Returned::Module(*found))
+        }
+        Case::Replace { table, at, module } => with_table(table, |table| {
+            if let Some(record) = table.get_mut(*at) {
+                *record = reference_of(module);
+            }
+            Returned::Nothing
+        }),
+        Case::SwitchOff { table, at } => with_table(table, |table| {
+            if let Some(record) = table.get_mut(*at) {
+                record.on = 0;
+            }
+            Returned::Nothing
+        }),
+        Case::Answer {
+            table,
+            station,
+            stretch,
+            out,
+        } => {
+            let mut bytes = out.clone();
+            let station = reference::Station {
+                ver: station.ver,
+                maker: station.maker,
+            };
+            let outcome = with_table(table, |table| {
+                let answer = reference::answer(table, &station, stretch, &mut bytes);
+                Returned::Answered(answered(answer))
+            });
+            Outcome { bytes, ..outcome }
+        }
+        Case::ReadReply {
+            table,
+            question,
+            stretch,
+        } => with_table(table, |table| {
+            let question = reference::Question {
+                adr: question.adr,
+                cid2: question.cid2,
+                command: question.command,
+            };
+            Returned::Reply(reply(reference::read_reply(table, question, stretch)))
+        }),
+        Case::TenthsCelsius { raw } => {
+            Outcome::of(Returned::Meaning(reference::tenths_celsius(*raw)))
+        }
+        Case::Milliamps { current } => {
+            Outcome::of(Returned::Meaning(reference::milliamps(*current)))
+        }
+    }
+}

@@ -1,0 +1,383 @@
+//! The comparisons compared with sides that are wrong in one thing each: every one must be found,
+//! and made small.
+
+use compare::case::{Case, Outcome, Returned};
+use compare::difference::{Comparison, Done};
+use compare::kinds::{frames, meanings, receiver, reply, standin, tables, writers};
+use compare::{input, paper};
+use linked::Module;
+use reference::seeded::Seeded;
+
+type Side = fn(&Case) -> Outcome;
+type Kind = fn(&mut Comparison, &mut Seeded, usize) -> Done;
+
+/// Runs a kind against a wrong side. The call found must stand for at most so many bytes.
+fn found(kind: Kind, wrong: Side, most: usize) -> Case {
+    let mut comparison = Comparison::new(wrong);
+    let difference = kind(&mut comparison, &mut Seeded::new(1), 1);
+    let difference = difference.expect_err("the wrong side was not found");
+    let data = input::encoded(&difference.case);
+    assert!(data.len() <= most, "{} bytes\n{difference}", data.len());
+    assert_ne!(difference.ours, difference.theirs);
+    // What is printed can be saved, and is that call again.
+    assert_eq!(
+        input::decoded(&data),
+        input::Input::Call(difference.case.clone())
+    );
+    assert!(difference.to_string().contains(difference.case.function()));
+    difference.case
+}
+
+#[test]
+fn lower_case_is_taken() {
+    let case = found(
+        frames::all,
+        |case| match case {
+            Case::Judge { stretch } => paper::outcome(&Case::Judge {
+                stretch: stretch.to_ascii_uppercase(),
+            }),
+            other => paper::outcome(other),
+        },
+        23,
+    );
+    // Sixteen characters, one of them in lower case.
+    let Case::Judge { stretch } = case else {
+        panic!("{case:?}");
+    };
+    assert_eq!(stretch.len(), 16);
+    assert_eq!(stretch.iter().filter(|c| c.is_ascii_lowercase()).count(), 1);
+}
+
+#[test]
+fn length_is_odd_and_7_is_said() {
+    found(
+        frames::all,
+        |case| {
+            let mut outcome = paper::outcome(case);
+            if let Returned::Event(event) = &mut outcome.returned {
+                event.number = if event.number == 6 { 7 } else { event.number };
+            }
+            outcome
+        },
+        23,
+    );
+}
+
+#[test]
+fn writer_clears_one_byte_more() {
+    let case = found(
+        frames::all,
+        |case| {
+            let mut outcome = paper::outcome(case);
+            if let Returned::Written(written) = outcome.returned {
+                let behind = outcome.bytes.get_mut(written.length);
+                behind.into_iter().for_each(|byte| *byte = 0);
+            }
+            outcome
+        },
+        40,
+    );
+    // A refused writing into one byte, which was cleared.
+    let Case::WriteFrame { info, out, .. } = case else {
+        panic!("{case:?}");
+    };
+    assert_eq!((info.len(), out.len()), (0, 1));
+}
+
+#[test]
+fn refusal_32_before_33() {
+    found(
+        frames::all,
+        |case| match case {
+            Case::WriteFrame { header, info, out } => paper::outcome(&Case::WriteFrame {
+                header: *header,
+                info: info[..info.len().min(2_047)].to_vec(),
+                out: out.clone(),
+            }),
+            other => paper::outcome(other),
+        },
+        16,
+    );
+}
+
+#[test]
+fn store_is_cleared_at_soi() {
+    found(
+        receiver::all,
+        |case| {
+            let mut outcome = paper::outcome(case);
+            if let (Case::Step { byte: b'~', .. }, Some(first)) = (case, outcome.bytes.first_mut())
+            {
+                *first = 0;
+            }
+            outcome
+        },
+        20,
+    );
+}
+
+#[test]
+fn run_leaves_the_byte_of_the_event() {
+    found(
+        receiver::all,
+        |case| {
+            let mut outcome = paper::outcome(case);
+            if let Returned::Ran(ran) = &mut outcome.returned {
+                ran.taken -= usize::from(ran.event.kind == 1);
+            }
+            outcome
+        },
+        // A store of one right frame, with the CR to come.
+        45,
+    );
+}
+
+#[test]
+fn count_4110_is_too_many() {
+    found(
+        receiver::all,
+        |case| match case {
+            Case::Step {
+                receiver,
+                store,
+                byte,
+            } if receiver.count == 4_110 => paper::outcome(&Case::Step {
+                receiver: linked::Receiver {
+                    count: 4_111,
+                    ..*receiver
+                },
+                store: store.clone(),
+                byte: *byte,
+            }),
+            other => paper::outcome(other),
+        },
+        20,
+    );
+}
+
+fn with_module(case: &Case, change: impl FnOnce(&mut Module)) -> Outcome {
+    let mut case = case.clone();
+    if let Case::WriteRecord { module, .. } = &mut case {
+        change(module);
+    }
+    paper::outcome(&case)
+}
+
+#[test]
+fn remaining_above_65000_is_cut() {
+    found(
+        writers::all,
+        |case| {
+            with_module(case, |module| {
+                if module.analog.total <= 65_000 {
+                    module.analog.remaining = module.analog.remaining.min(65_000);
+                }
+            })
+        },
+        20,
+    );
+}
+
+#[test]
+fn place_beyond_n_is_not_judged() {
+    found(
+        writers::all,
+        |case| with_module(case, |module| module.alarm.temperatures[7] = 0),
+        16,
+    );
+}
+
+fn with_table(case: &Case, change: impl FnOnce(&mut Vec<Module>)) -> Outcome {
+    let mut case = case.clone();
+    match &mut case {
+        Case::WriteGroup { table, .. } | Case::Table { table } | Case::Answer { table, .. } => {
+            change(table)
+        }
+        _ => {}
+    }
+    paper::outcome(&case)
+}
+
+#[test]
+fn members_that_are_off_are_written() {
+    let case = found(
+        writers::all,
+        |case| {
+            with_table(case, |table| {
+                table.iter_mut().for_each(|m| m.on |= m.on ^ 1 & 1)
+            })
+        },
+        20,
+    );
+    let Case::WriteGroup { table, .. } = case else {
+        panic!("{case:?}");
+    };
+    assert_eq!(table.len(), 1);
+}
+
+#[test]
+fn a_thirteenth_record_is_not_seen() {
+    let case = found(
+        tables::all,
+        |case| with_table(case, |table| table.truncate(12)),
+        80,
+    );
+    let Case::Table { table } = case else {
+        panic!("{case:?}");
+    };
+    assert_eq!(table.len(), 13);
+}
+
+#[test]
+fn any_mark_is_on() {
+    found(
+        tables::all,
+        |case| {
+            with_table(case, |table| {
+                table.iter_mut().for_each(|m| m.on = m.on.min(1))
+            })
+        },
+        10,
+    );
+}
+
+#[test]
+fn the_last_record_is_not_switched_off() {
+    found(
+        tables::all,
+        |case| match case {
+            Case::SwitchOff { table, at } if at + 1 == table.len() => {
+                let mut outcome = paper::outcome(case);
+                outcome.table.clone_from(table);
+                outcome
+            }
+            other => paper::outcome(other),
+        },
+        14,
+    );
+}
+
+#[test]
+fn an_accepted_95h_leaves_the_table() {
+    found(
+        standin::all,
+        |case| {
+            let mut outcome = paper::outcome(case);
+            if let Case::Answer { table, .. } = case {
+                outcome.table.clone_from(table);
+            }
+            outcome
+        },
+        // The question, the maker's 32 bytes, one record.
+        70,
+    );
+}
+
+#[test]
+fn a_module_with_a_fault_answers() {
+    found(
+        standin::all,
+        |case| {
+            with_table(case, |table| {
+                table.iter_mut().for_each(|m| m.link_fault = 0)
+            })
+        },
+        70,
+    );
+}
+
+fn reading(case: &Case, change: impl FnOnce(&[Module], &mut Outcome)) -> Outcome {
+    let mut outcome = paper::outcome(case);
+    if let Case::ReadReply { table, .. } = case {
+        change(table, &mut outcome);
+    }
+    outcome
+}
+
+#[test]
+fn cells_of_the_reply_before_are_kept() {
+    found(
+        reply::all,
+        |case| {
+            reading(case, |before, outcome| {
+                for (after, before) in outcome.table.iter_mut().zip(before) {
+                    let from = usize::from(after.analog.cell_count).min(16);
+                    after.analog.cells[from..].copy_from_slice(&before.analog.cells[from..]);
+                }
+            })
+        },
+        60,
+    );
+}
+
+#[test]
+fn the_first_record_is_copied_for_the_rest() {
+    let case = found(
+        reply::all,
+        |case| {
+            reading(case, |before, outcome| {
+                let read = before != outcome.table;
+                for at in 1..outcome.table.len() {
+                    if read && outcome.table[at].alarm != before[at].alarm {
+                        outcome.table[at].alarm = outcome.table[0].alarm;
+                    }
+                }
+            })
+        },
+        60,
+    );
+    let Case::ReadReply { table, .. } = case else {
+        panic!("{case:?}");
+    };
+    assert_eq!(table.len(), 2);
+}
+
+#[test]
+fn the_flag_is_not_returned() {
+    found(
+        reply::all,
+        |case| {
+            reading(case, |_, outcome| {
+                if let Returned::Reply(reply) = &mut outcome.returned {
+                    reply.flag = 0;
+                }
+            })
+        },
+        50,
+    );
+}
+
+#[test]
+fn code_and_info_are_judged_the_other_way_round() {
+    found(
+        reply::all,
+        |case| {
+            reading(case, |_, outcome| {
+                let Case::ReadReply { stretch, .. } = case else {
+                    return;
+                };
+                if let Returned::Reply(reply) = &mut outcome.returned {
+                    if reply.number == 13 && stretch.len() > 16 {
+                        reply.number = 14;
+                    }
+                }
+            })
+        },
+        20,
+    );
+}
+
+#[test]
+fn the_greatest_current_is_wrapped() {
+    let case = found(
+        meanings::all,
+        |case| match case {
+            Case::Milliamps { current } => {
+                Outcome::of(Returned::Meaning(i32::from(current.wrapping_mul(100))))
+            }
+            other => paper::outcome(other),
+        },
+        3,
+    );
+    assert!(matches!(case, Case::Milliamps { .. }));
+}
