@@ -240,7 +240,7 @@ fn stream(bytes: &mut Bytes) -> Input {
     let cuts = (0..count).map(|_| usize::from(bytes.word())).collect();
     let mut stream = Vec::new();
     while !bytes.at_end() && stream.len() < 2 * LONGEST {
-        if bytes.byte() % 2 == 0 {
+        if bytes.byte().is_multiple_of(2) {
             stream.extend(filled(bytes));
         } else {
             stream.push(SOI);

@@ -2,11 +2,15 @@
 //! input is kept.
 
 /// Compares the calls that the bytes stand for.
+///
+/// # Safety
+///
+/// `size` bytes at `data` must be readable for the whole call.
 #[no_mangle]
-pub extern "C" fn LLVMFuzzerTestOneInput(data: *const u8, size: usize) -> i32 {
+pub unsafe extern "C" fn LLVMFuzzerTestOneInput(data: *const u8, size: usize) -> i32 {
     let data = match size {
         0 => &[][..],
-        // SAFETY: libFuzzer lends `size` readable bytes at `data` for the whole call.
+        // SAFETY: that is what the caller must see to, and libFuzzer does.
         _ => unsafe { std::slice::from_raw_parts(data, size) },
     };
     if let Err(difference) = compare::one(data) {

@@ -31,7 +31,7 @@ fn every_length_and_check(comparison: &mut Comparison) -> Done {
         length[8..12].copy_from_slice(&characters);
         judge(comparison, made::sealed(&length))?;
         let lenid = usize::from(value & 0x0FFF);
-        if value % 251 == 0 || value >> 12 == reference::frame::lchksum(value & 0x0FFF) {
+        if value.is_multiple_of(251) || value >> 12 == reference::frame::lchksum(value & 0x0FFF) {
             length.splice(12..12, vec![b'5'; lenid]);
             judge(comparison, made::sealed(&length))?;
             length.splice(12..12, *b"00");

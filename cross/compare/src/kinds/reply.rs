@@ -158,13 +158,9 @@ fn every_place(comparison: &mut Comparison, seeded: &mut Seeded, cid2: u8, group
     };
     for place in 0..info.len() {
         let tried = if group { 3 } else { BYTES.len() };
-        for byte in 0..tried {
+        for byte in BYTES.into_iter().cycle().skip(5 * place).take(tried) {
             let mut changed = info.clone();
-            changed[place] = if group {
-                seeded.pick(&BYTES)
-            } else {
-                BYTES[byte]
-            };
+            changed[place] = byte;
             read(
                 comparison,
                 &table,
