@@ -100,7 +100,22 @@ fn with_table(given: &[Module], call: impl FnOnce(&mut [Module]) -> Returned) ->
     }
 }
 
-/// A call that is lent both.
+/// A call that is lent a store and a buffer.
+fn with_store(
+    store: &[u8],
+    out: &[u8],
+    call: impl FnOnce(&mut [u8], &mut [u8]) -> Returned,
+) -> Outcome {
+    let mut lent = Lent::new(store, BYTE);
+    let outcome = with_bytes(out, |out| call(lent.lend(), out));
+    Outcome {
+        strayed: outcome.strayed || lent.strayed(),
+        store: lent.after(),
+        ..outcome
+    }
+}
+
+/// A call that is lent a table and a buffer.
 fn with_both(
     table: &[Module],
     out: &[u8],
@@ -189,6 +204,18 @@ pub fn outcome(case: &Case) -> Outcome {
             stretch,
         } => with_table(table, |table| {
             Returned::Reply(linked::read_reply(table, *question, stretch))
+        }),
+        Case::ListingNew => Outcome::of(Returned::Listing(linked::listing_new())),
+        Case::List {
+            listing,
+            store,
+            piece,
+            out,
+        } => with_store(store, out, |store, out| {
+            Returned::Listed(linked::list(*listing, store, piece, out))
+        }),
+        Case::ListClose { listing, out } => with_bytes(out, |out| {
+            Returned::Written(linked::list_close(*listing, out))
         }),
         Case::TenthsCelsius { raw } => Outcome::of(Returned::Meaning(linked::tenths_celsius(*raw))),
         Case::Milliamps { current } => Outcome::of(Returned::Meaning(linked::milliamps(*current))),

@@ -1,7 +1,10 @@
 //! A call with all that it is given, and all that can be seen of it afterwards. Both sides speak in
 //! the header's structs.
 
-use linked::{Answered, Event, Module, Question, Ran, Receiver, Reply, Station, Stepped, Written};
+use linked::{
+    Answered, Event, Listed, Listing, Module, Question, Ran, Receiver, Reply, Station, Stepped,
+    Written,
+};
 
 /// The writers of one record.
 #[derive(Clone, Copy, Debug, PartialEq, Eq)]
@@ -90,6 +93,17 @@ pub enum Case {
         question: Question,
         stretch: Vec<u8>,
     },
+    ListingNew,
+    List {
+        listing: Listing,
+        store: Vec<u8>,
+        piece: Vec<u8>,
+        out: Vec<u8>,
+    },
+    ListClose {
+        listing: Listing,
+        out: Vec<u8>,
+    },
     TenthsCelsius {
         raw: i16,
     },
@@ -112,6 +126,8 @@ pub enum Returned {
     Nothing,
     Answered(Answered),
     Reply(Reply),
+    Listing(Listing),
+    Listed(Listed),
     Meaning(i32),
 }
 
@@ -122,6 +138,8 @@ pub struct Outcome {
     pub returned: Returned,
     /// The whole lent store or buffer then; empty where none is lent.
     pub bytes: Vec<u8>,
+    /// The whole lent store then, of a call that is lent a store and a buffer.
+    pub store: Vec<u8>,
     /// The whole lent table then; empty where none is lent to be changed.
     pub table: Vec<Module>,
     /// Whether something beside what was lent was changed.
@@ -134,6 +152,7 @@ impl Outcome {
         Outcome {
             returned,
             bytes: Vec::new(),
+            store: Vec::new(),
             table: Vec::new(),
             strayed: false,
         }
@@ -166,6 +185,9 @@ impl Case {
             Case::SwitchOff { .. } => "hanuzak_switch_off",
             Case::Answer { .. } => "hanuzak_answer",
             Case::ReadReply { .. } => "hanuzak_read_reply",
+            Case::ListingNew => "hanuzak_listing_new",
+            Case::List { .. } => "hanuzak_list",
+            Case::ListClose { .. } => "hanuzak_list_close",
             Case::TenthsCelsius { .. } => "hanuzak_tenths_celsius",
             Case::Milliamps { .. } => "hanuzak_milliamps",
         }

@@ -83,6 +83,9 @@ fn say_outcome(f: &mut fmt::Formatter, who: &str, outcome: &Outcome) -> fmt::Res
     if !outcome.bytes.is_empty() {
         writeln!(f, "    lent bytes then: {}", hex(&outcome.bytes))?;
     }
+    if !outcome.store.is_empty() {
+        writeln!(f, "    lent store then: {}", hex(&outcome.store))?;
+    }
     if outcome.strayed {
         writeln!(f, "    memory beside what was lent was changed")?;
     }
@@ -117,6 +120,9 @@ fn say_case(f: &mut fmt::Formatter, case: &Case) -> fmt::Result {
     }
     for (name, size) in &parts.sizes {
         writeln!(f, "    {name}: {size}")?;
+    }
+    for (name, number) in &parts.totals {
+        writeln!(f, "    {name}: {number}")?;
     }
     for module in &parts.modules {
         writeln!(f, "    record: {module:?}")?;

@@ -6,7 +6,7 @@ use crate::bytes::Bytes;
 use crate::case::{Case, Group, Kind};
 use crate::made;
 use crate::records::{linked_of, packed, plain, references_of, unpacked, PACKED};
-use linked::{Module, Question, Receiver, Station};
+use linked::{Listing, Module, Question, Receiver, Station};
 use reference::frame::{CR, SOI};
 use reference::seeded::Seeded;
 
@@ -17,6 +17,8 @@ pub enum By {
     Step,
     /// Piece by piece.
     Run,
+    /// Piece by piece, to be listed.
+    List,
 }
 
 /// What some bytes stand for.
@@ -40,7 +42,7 @@ const MANY: u8 = 15;
 /// What stands for that count; each byte above it for one more.
 const RARE: u8 = 200;
 /// The functions, and the stream.
-const FORMS: u8 = 21;
+const FORMS: u8 = 24;
 
 const KINDS: [Kind; 5] = [
     Kind::Analog,
@@ -117,7 +119,18 @@ pub fn decoded(data: &[u8]) -> Input {
             current: bytes.word() as i16,
         },
         19 => return stream(bytes),
-        _ => Case::ReceiverNew,
+        20 => Case::ReceiverNew,
+        21 => Case::ListingNew,
+        22 => Case::List {
+            listing: listing(bytes),
+            store: filled(bytes),
+            piece: filled(bytes),
+            out: filled(bytes),
+        },
+        _ => Case::ListClose {
+            listing: listing(bytes),
+            out: filled(bytes),
+        },
     })
 }
 
@@ -125,6 +138,15 @@ fn receiver(bytes: &mut Bytes) -> Receiver {
     Receiver {
         open: bytes.byte(),
         count: bytes.size(),
+    }
+}
+
+fn listing(bytes: &mut Bytes) -> Listing {
+    Listing {
+        receiver: receiver(bytes),
+        offset: bytes.long(),
+        frames: bytes.long(),
+        refusals: bytes.long(),
     }
 }
 
@@ -232,9 +254,10 @@ fn reply_case(bytes: &mut Bytes) -> Case {
 
 /// Parts of a stream up to the end of the bytes.
 fn stream(bytes: &mut Bytes) -> Input {
-    let by = match bytes.byte() % 2 {
+    let by = match bytes.byte() % 3 {
         0 => By::Run,
-        _ => By::Step,
+        1 => By::Step,
+        _ => By::List,
     };
     let count = bytes.byte() % 16;
     let cuts = (0..count).map(|_| usize::from(bytes.word())).collect();
@@ -354,6 +377,24 @@ pub fn encoded(case: &Case) -> Vec<u8> {
             put_table(&mut data, table);
         }
         Case::ReceiverNew => data.push(20),
+        Case::ListingNew => data.push(21),
+        Case::List {
+            listing,
+            store,
+            piece,
+            out,
+        } => {
+            data.push(22);
+            put_listing(&mut data, listing);
+            put_filled(&mut data, store);
+            put_filled(&mut data, piece);
+            put_filled(&mut data, out);
+        }
+        Case::ListClose { listing, out } => {
+            data.push(23);
+            put_listing(&mut data, listing);
+            put_filled(&mut data, out);
+        }
         Case::TenthsCelsius { raw } => {
             data.push(17);
             data.extend(raw.to_be_bytes());
@@ -373,6 +414,13 @@ fn put_size(data: &mut Vec<u8>, size: usize) {
 fn put_receiver(data: &mut Vec<u8>, receiver: &Receiver) {
     data.push(receiver.open);
     put_size(data, receiver.count);
+}
+
+fn put_listing(data: &mut Vec<u8>, listing: &Listing) {
+    put_receiver(data, &listing.receiver);
+    for number in [listing.offset, listing.frames, listing.refusals] {
+        data.extend(number.to_be_bytes());
+    }
 }
 
 fn put_filled(data: &mut Vec<u8>, all: &[u8]) {

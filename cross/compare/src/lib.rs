@@ -35,6 +35,7 @@ pub fn one_of_many(comparison: &mut Comparison, data: &[u8]) -> Done {
         input::Input::Stream { stream, cuts, by } => match by {
             input::By::Step => kinds::receiver::by_step(comparison, &stream, &cuts),
             input::By::Run => kinds::receiver::by_run(comparison, &stream, &cuts),
+            input::By::List => kinds::listing::stream(comparison, &stream, &cuts),
         },
     }
 }

@@ -3,8 +3,11 @@
 
 use crate::case::{Case, Group, Kind, Outcome, Returned};
 use crate::records::{linked_of, reference_of, references_of};
-use linked::{Answered, Event, Module, Ran, Receiver, Reply, Stepped, Written};
-use reference::{Header, Number};
+use linked::{
+    Answered, Event, Listed, Listing, Module, Ran, Receiver, Reply, Stepped, Written, CLOSING,
+    LISTING, STORE,
+};
+use reference::{Header, Lister, Number};
 
 fn refused(number: Number) -> Event {
     Event {
@@ -95,6 +98,75 @@ fn reply(result: Result<reference::Reply, Number>) -> Reply {
             maker: [0; 32],
         },
     }
+}
+
+fn lister(listing: &Listing, store: &[u8]) -> Lister {
+    let receiver = receiver_of(listing.receiver);
+    let [offset, frames, refusals] = [listing.offset, listing.frames, listing.refusals];
+    Lister::going_on(
+        receiver,
+        store,
+        offset.into(),
+        frames.into(),
+        refusals.into(),
+    )
+}
+
+/// "32 for a store below 4,110 bytes or a buffer below 4,200, then 35 for a count above 4,110".
+fn list_refusal(listing: &Listing, store: &[u8], out: &[u8]) -> Option<u32> {
+    if store.len() < STORE || out.len() < LISTING {
+        return Some(32);
+    }
+    (listing.receiver.open != 0 && listing.receiver.count > STORE).then_some(35)
+}
+
+/// "It takes a byte only while 4,200 bytes of out are left", and none from offset 1,073,741,824 on.
+fn list(listing: &Listing, store: &mut [u8], piece: &[u8], out: &mut [u8]) -> Listed {
+    if let Some(number) = list_refusal(listing, store, out) {
+        let receiver = receiver(receiver_of(listing.receiver));
+        return Listed {
+            next: Listing {
+                receiver,
+                ..*listing
+            },
+            taken: 0,
+            written: Written { number, length: 0 },
+        };
+    }
+    let mut lister = lister(listing, store);
+    let (mut taken, mut length) = (0, 0);
+    while taken < piece.len() && out.len() - length >= LISTING {
+        let before = lister.state().2;
+        let text = lister.piece(&piece[taken..taken + 1]);
+        if lister.state().2 == before {
+            break;
+        }
+        taken += 1;
+        out[length..length + text.len()].copy_from_slice(&text);
+        length += text.len();
+    }
+    let (then, stored, offset, frames, refusals) = lister.state();
+    store.copy_from_slice(stored);
+    Listed {
+        next: Listing {
+            receiver: receiver(then),
+            offset: offset as u32,
+            frames: frames as u32,
+            refusals: refusals as u32,
+        },
+        taken,
+        written: Written { number: 0, length },
+    }
+}
+
+/// "The two totals, the listing's last lines"; "32 for n below 38".
+fn list_close(listing: &Listing, out: &mut [u8]) -> Result<usize, Number> {
+    if out.len() < CLOSING {
+        return Err(32);
+    }
+    let text = lister(listing, &[]).totals();
+    out[..text.len()].copy_from_slice(&text);
+    Ok(text.len())
 }
 
 fn with_bytes(given: &[u8], call: impl FnOnce(&mut [u8]) -> Returned) -> Outcome {
@@ -238,6 +310,25 @@ pub fn outcome(case: &Case) -> Outcome {
             };
             Returned::Reply(reply(reference::read_reply(table, question, stretch)))
         }),
+        Case::ListingNew => Outcome::of(Returned::Listing(Listing::default())),
+        Case::List {
+            listing,
+            store,
+            piece,
+            out,
+        } => {
+            let mut stored = store.clone();
+            let outcome = with_bytes(out, |out| {
+                Returned::Listed(list(listing, &mut stored, piece, out))
+            });
+            Outcome {
+                store: stored,
+                ..outcome
+            }
+        }
+        Case::ListClose { listing, out } => {
+            with_bytes(out, |out| written(list_close(listing, out)))
+        }
         Case::TenthsCelsius { raw } => {
             Outcome::of(Returned::Meaning(reference::tenths_celsius(*raw)))
         }

@@ -6,7 +6,7 @@ mod reply;
 use crate::case::Case;
 use crate::made;
 use crate::records::{packed, plain, unpacked, PACKED};
-use linked::Module;
+use linked::{Listing, Module};
 
 /// What can be made smaller in a call, by name.
 pub struct Parts<'a> {
@@ -22,6 +22,8 @@ pub struct Parts<'a> {
     pub bytes: Vec<(&'static str, &'a mut u8)>,
     /// Sizes by value.
     pub sizes: Vec<(&'static str, &'a mut usize)>,
+    /// A listing's offset and totals.
+    pub totals: Vec<(&'static str, &'a mut u32)>,
 }
 
 impl Parts<'_> {
@@ -33,6 +35,7 @@ impl Parts<'_> {
             modules: Vec::new(),
             bytes: Vec::new(),
             sizes: Vec::new(),
+            totals: Vec::new(),
         }
     }
 }
@@ -42,6 +45,19 @@ fn header(header: &mut [u8; 4]) -> Vec<(&'static str, &mut u8)> {
         .into_iter()
         .zip(header)
         .collect()
+}
+
+fn listing_parts(listing: &mut Listing) -> Parts<'_> {
+    Parts {
+        bytes: vec![("open", &mut listing.receiver.open)],
+        sizes: vec![("count", &mut listing.receiver.count)],
+        totals: vec![
+            ("offset", &mut listing.offset),
+            ("frames", &mut listing.frames),
+            ("refusals", &mut listing.refusals),
+        ],
+        ..Parts::none()
+    }
 }
 
 /// The parts of a call.
@@ -154,8 +170,25 @@ pub fn parts(case: &mut Case) -> Parts<'_> {
             ],
             ..Parts::none()
         },
+        Case::List {
+            listing,
+            store,
+            piece,
+            out,
+        } => Parts {
+            texts: vec![("piece", piece), ("store", store)],
+            lent: Some(out),
+            ..listing_parts(listing)
+        },
+        Case::ListClose { listing, out } => Parts {
+            lent: Some(out),
+            ..listing_parts(listing)
+        },
         // Nothing, or one number, whose whole range is compared anyway.
-        Case::ReceiverNew | Case::TenthsCelsius { .. } | Case::Milliamps { .. } => Parts::none(),
+        Case::ReceiverNew
+        | Case::ListingNew
+        | Case::TenthsCelsius { .. }
+        | Case::Milliamps { .. } => Parts::none(),
     }
 }
 
@@ -317,6 +350,14 @@ impl<F: Fn(&Case) -> bool> Search<F> {
             .any(|smaller| self.attempt(|parts| *parts.sizes[at].1 = smaller))
     }
 
+    fn total(&mut self, at: usize) -> bool {
+        let value = self.count(|parts| *parts.totals[at].1);
+        let smaller = [0, value / 2, value.saturating_sub(1)];
+        smaller
+            .into_iter()
+            .any(|smaller| self.attempt(|parts| *parts.totals[at].1 = smaller))
+    }
+
     /// Everything once; whether something became smaller.
     fn pass(&mut self) -> bool {
         let mut changed = self.reply() | self.table() | self.lent();
@@ -333,6 +374,11 @@ impl<F: Fn(&Case) -> bool> Search<F> {
         }
         for at in 0..self.count(|parts| parts.sizes.len()) {
             while self.size(at) {
+                changed = true;
+            }
+        }
+        for at in 0..self.count(|parts| parts.totals.len()) {
+            while self.total(at) {
                 changed = true;
             }
         }

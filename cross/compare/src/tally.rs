@@ -121,6 +121,14 @@ pub fn end(case: &Case, outcome: &Outcome) -> End {
         (_, Returned::Ran(ran)) => event(&ran.event),
         (_, Returned::Written(written)) if written.number == 0 => End::Wrote,
         (_, Returned::Written(written)) => End::Refused(written.number),
+        (_, Returned::Listed(listed)) => match listed.written {
+            linked::Written {
+                number: 0,
+                length: 0,
+            } => End::Plain,
+            linked::Written { number: 0, .. } => End::Wrote,
+            linked::Written { number, .. } => End::Refused(number),
+        },
         (_, Returned::Number(0)) => End::Plain,
         (_, Returned::Number(number)) => End::Refused(u32::from(*number)),
         _ => End::Plain,
@@ -235,6 +243,10 @@ fn required() -> Vec<(&'static str, End)> {
         "hanuzak_read_reply",
         (11..=22).map(End::GroupRefused).collect(),
     );
+    add("hanuzak_listing_new", vec![End::Plain]);
+    add("hanuzak_list", vec![End::Plain, End::Wrote]);
+    add("hanuzak_list", refused(&[32, 35]));
+    add("hanuzak_list_close", vec![End::Wrote, End::Refused(32)]);
     add("hanuzak_tenths_celsius", vec![End::Plain]);
     add("hanuzak_milliamps", vec![End::Plain]);
     all

@@ -3,7 +3,7 @@
 
 use compare::case::{Case, Outcome, Returned};
 use compare::difference::{Comparison, Done};
-use compare::kinds::{frames, meanings, receiver, reply, standin, tables, writers};
+use compare::kinds::{frames, listing, meanings, receiver, reply, standin, tables, writers};
 use compare::{input, paper};
 use linked::Module;
 use reference::seeded::Seeded;
@@ -365,6 +365,41 @@ fn code_and_info_are_judged_the_other_way_round() {
         },
         20,
     );
+}
+
+#[test]
+fn totals_stand_for_each_other() {
+    found(
+        listing::all,
+        |case| {
+            let mut case = case.clone();
+            if let Case::ListClose { listing, .. } = &mut case {
+                core::mem::swap(&mut listing.frames, &mut listing.refusals);
+            }
+            paper::outcome(&case)
+        },
+        30,
+    );
+}
+
+#[test]
+fn the_byte_after_the_limit_is_listed() {
+    let case = found(
+        listing::all,
+        |case| {
+            let mut outcome = paper::outcome(case);
+            if let Returned::Listed(listed) = &mut outcome.returned {
+                let more = listed.next.offset == 1_073_741_824;
+                listed.taken += usize::from(more);
+            }
+            outcome
+        },
+        45,
+    );
+    let Case::List { listing, .. } = case else {
+        panic!("{case:?}");
+    };
+    assert!(listing.offset <= 1_073_741_824);
 }
 
 #[test]

@@ -23,6 +23,8 @@ layout!(Event: 24, 8; kind 0, number 4, ver 8, adr 9, cid1 10, cid2 11, lenid 16
 layout!(Receiver: 16, 8; open 0, count 8);
 layout!(Stepped: 40, 8; next 0, event 16);
 layout!(Ran: 48, 8; next 0, event 16, taken 40);
+layout!(Listing: 32, 8; receiver 0, offset 16, frames 20, refusals 24);
+layout!(Listed: 56, 8; next 0, taken 32, written 40);
 layout!(Answered: 16, 8; kind 0, number 4, length 8);
 layout!(Question: 3, 1; adr 0, cid2 1, command 2);
 layout!(Reply: 44, 4; kind 0, number 4, ver 8, code 9, flag 10, maker 11);

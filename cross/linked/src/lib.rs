@@ -11,14 +11,18 @@ mod sys;
 mod types;
 
 pub use types::{
-    Alarm, Analog, Answered, Event, Limits, Module, Question, Ran, Receiver, Reply, Station,
-    Stepped, Written,
+    Alarm, Analog, Answered, Event, Limits, Listed, Listing, Module, Question, Ran, Receiver,
+    Reply, Station, Stepped, Written,
 };
 
 /// The least store of a receiver.
 pub const STORE: usize = 4_110;
 /// The least buffer of an answer.
 pub const ANSWER: usize = 4_112;
+/// The least buffer of a listing.
+pub const LISTING: usize = 4_200;
+/// The least buffer of a listing's totals.
+pub const CLOSING: usize = 38;
 /// The most records that a table has.
 pub const MODULES: usize = 12;
 
@@ -135,6 +139,26 @@ pub fn read_reply(table: &mut [Module], question: Question, stretch: &[u8]) -> R
     let (records, n) = (table.as_mut_ptr(), table.len());
     // SAFETY: the table is ours alone for its length, so it does not overlap the stretch, which is readable for its own.
     unsafe { sys::hanuzak_read_reply(records, n, question, stretch.as_ptr(), stretch.len()) }
+}
+
+/// A fresh listing.
+pub fn listing_new() -> Listing {
+    // SAFETY: it is lent nothing.
+    unsafe { sys::hanuzak_listing_new() }
+}
+
+/// Lists as much of a piece as the buffer has room for: 32, then 35.
+pub fn list(listing: Listing, store: &mut [u8], piece: &[u8], out: &mut [u8]) -> Listed {
+    let (at, n) = (store.as_mut_ptr(), store.len());
+    let (to, k) = (out.as_mut_ptr(), out.len());
+    // SAFETY: store and buffer are each ours alone, so they overlap neither each other nor the piece, which is readable.
+    unsafe { sys::hanuzak_list(listing, at, n, piece.as_ptr(), piece.len(), to, k) }
+}
+
+/// The two totals, which close a listing: 32.
+pub fn list_close(listing: Listing, out: &mut [u8]) -> Written {
+    // SAFETY: the slice is ours alone for its length.
+    unsafe { sys::hanuzak_list_close(listing, out.as_mut_ptr(), out.len()) }
 }
 
 /// A temperature as on the wire, in tenths of a degree Celsius.

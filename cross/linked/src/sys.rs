@@ -62,6 +62,17 @@ extern "C" {
         stretch: *const u8,
         m: usize,
     ) -> Reply;
+    pub fn hanuzak_listing_new() -> Listing;
+    pub fn hanuzak_list(
+        listing: Listing,
+        store: *mut u8,
+        n: usize,
+        piece: *const u8,
+        m: usize,
+        out: *mut u8,
+        k: usize,
+    ) -> Listed;
+    pub fn hanuzak_list_close(listing: Listing, out: *mut u8, n: usize) -> Written;
     pub fn hanuzak_tenths_celsius(raw: i16) -> i32;
     pub fn hanuzak_milliamps(current: i16) -> i32;
 }

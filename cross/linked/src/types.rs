@@ -156,6 +156,32 @@ pub struct Ran {
     pub taken: usize,
 }
 
+/// Where a listing stands.
+#[repr(C)]
+#[derive(Clone, Copy, Debug, Default, PartialEq, Eq)]
+pub struct Listing {
+    /// Its receiver.
+    pub receiver: Receiver,
+    /// The offset of the next byte.
+    pub offset: u32,
+    /// How many frames so far.
+    pub frames: u32,
+    /// How many refusals so far.
+    pub refusals: u32,
+}
+
+/// What a piece of a capture gives.
+#[repr(C)]
+#[derive(Clone, Copy, Debug, Default, PartialEq, Eq)]
+pub struct Listed {
+    /// The listing then.
+    pub next: Listing,
+    /// How many bytes of the piece.
+    pub taken: usize,
+    /// Number 0 and the length of the text, or the refusal's number.
+    pub written: Written,
+}
+
 /// Kind 0 silence, 1 a reply of `length` bytes, 2 refused with a number.
 #[repr(C)]
 #[derive(Clone, Copy, Debug, Default, PartialEq, Eq)]

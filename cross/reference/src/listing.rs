@@ -38,6 +38,41 @@ impl Lister {
         }
     }
 
+    /// A listing that goes on from a receiver and its store, the next byte's offset and the totals.
+    /// The store has at least 4,110 bytes and the count is at most 4,110.
+    pub fn going_on(
+        receiver: Receiver,
+        store: &[u8],
+        offset: u64,
+        frames: u64,
+        refusals: u64,
+    ) -> Self {
+        let opened = match receiver {
+            // SOI stands in front of the characters.
+            Receiver::Open(count) => offset.saturating_sub(count as u64).saturating_sub(1),
+            Receiver::Waiting => 0,
+        };
+        Lister {
+            receiver,
+            store: store.to_vec(),
+            offset,
+            opened,
+            frames,
+            refusals,
+        }
+    }
+
+    /// The receiver and its store, the next byte's offset and the totals.
+    pub fn state(&self) -> (Receiver, &[u8], u64, u64, u64) {
+        (
+            self.receiver,
+            &self.store,
+            self.offset,
+            self.frames,
+            self.refusals,
+        )
+    }
+
     /// The lines of the next piece of the stream.
     pub fn piece(&mut self, piece: &[u8]) -> Vec<u8> {
         let mut text = Vec::new();
