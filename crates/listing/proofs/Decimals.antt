@@ -73,6 +73,10 @@ one-digit : (n : ℕ) → n < 10 → digit n ∷ [] ≡ digits 1 n
 unfolding digits
 one-digit n h = let e : n ≡ n % 10 = omega arith in ap (λ (d : ℕ). digit d ∷ []) e
 
+pub decimal-small : (n : ℕ) → n < 10 → decimal n ≡ digit n ∷ []
+unfolding decimal decimalIn
+decimal-small n h = rw (lt-ltb n 10 h)
+
 decimal-in : (most n : ℕ) → decimalIn most n ≡ digits (length (decimalIn most n)) n
 unfolding decimalIn digits
 decimal-in zero n = refl

@@ -128,6 +128,9 @@ fn put_decimal(out: &mut [u8], at: usize, n: u32) -> usize
     requires { ⌜ Room (now out) at (decimal n) ⌝ }
     ensures { λ r. ⌜ Put (now (out .entry)) at (decimal n) (now (out .exit)) r ⌝ }
 {
+    if n < 10 {
+        return buffer::put(out, at, 48 + n as u8);
+    }
     let k = places(n);
     put_digits(out, at, k, n)
 }

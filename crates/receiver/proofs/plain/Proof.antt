@@ -5,10 +5,10 @@ use Prim.Native.Nat.{ℕ, _+_, _-_, _≤_}
 use native.Mathlib.Nat.{zero-add}
 use native.Mathlib.Omega.{arith}
 use lib.ListN.{length, take, drop}
-use Rattle.receiver.proofs.Scans.{before-skip, before-one, before-here, before-end}
+use Rattle.receiver.proofs.Scans.{before-skip}
 use Rattle.receiver.specs.Scan.{isEnd, any, before}
-use Rattle.receiver.proofs.find_end.Statement.{statement}
-use Rattle.receiver.proofs.find_end.Tie as tie
+use Rattle.receiver.proofs.plain.Statement.{statement}
+use Rattle.receiver.proofs.plain.Tie as tie
 
 abbrev Inv-loop : tie.InvT-loop
 Inv-loop s i₀ i = (i ≤ length s) × (before isEnd s ≡ i + before isEnd (drop i s))
@@ -60,11 +60,23 @@ loop-again c =
 loop2-holds : tie.Need-loop2-holds Inv-loop μ-loop Inv-loop2 μ-loop2
 loop2-holds c = c .before .loop .inv
 
-shared-slice-read-x : tie.Need-shared-slice-read-x Inv-loop μ-loop Inv-loop2 μ-loop2
-shared-slice-read-x c = omega arith
+sub-loop2 : tie.Need-sub-loop2 Inv-loop μ-loop Inv-loop2 μ-loop2
+sub-loop2 c = omega arith
 
-returns : tie.Need-returns Inv-loop μ-loop Inv-loop2 μ-loop2
-returns c = before-here isEnd (c .before .before .before .before .before .before .before .args .s .now) (c .before .before .before .loop2 .i) (omega arith) (c .if2 .taken) (c .before .before .before .loop2 .inv .1)
+add-e-2 : tie.Need-add-e-2 Inv-loop μ-loop Inv-loop2 μ-loop2
+add-e-2 c = omega arith
+
+sub-has-end-2 : tie.Need-sub-has-end-2 Inv-loop μ-loop Inv-loop2 μ-loop2
+sub-has-end-2 c = omega arith
+
+part-has-end-start-2 : tie.Need-part-has-end-start-2 Inv-loop μ-loop Inv-loop2 μ-loop2
+part-has-end-start-2 c = omega arith
+
+part-has-end-end-2 : tie.Need-part-has-end-end-2 Inv-loop μ-loop Inv-loop2 μ-loop2
+part-has-end-end-2 c = omega arith
+
+has-end-requires-2 : tie.Need-has-end-requires-2 Inv-loop μ-loop Inv-loop2 μ-loop2
+has-end-requires-2 c κs = tt
 
 add-i-2 : tie.Need-add-i-2 Inv-loop μ-loop Inv-loop2 μ-loop2
 add-i-2 c = omega arith
@@ -73,13 +85,21 @@ loop2-less : tie.Need-loop2-less Inv-loop μ-loop Inv-loop2 μ-loop2
 loop2-less c = omega arith
 
 loop2-again : tie.Need-loop2-again Inv-loop μ-loop Inv-loop2 μ-loop2
-loop2-again c = (omega arith, before-one isEnd (c .before .before .before .before .before .before .before .args .s .now) (c .before .before .before .loop2 .i) (omega arith) (c .if2 .left) (c .before .before .before .loop2 .inv .1))
+loop2-again c =
+    let l = c .before .before .before .before .loop2 in
+    let s = c .before .before .before .before .before .before .before .before .args .s .now in
+    let width : 4 ≡ l .i + 4 - l .i = omega arith in
+    let none : any isEnd (take 4 (drop (l .i) s)) ≡ false = ap (λ (k : ℕ). any isEnd (take k (drop (l .i) s))) width ∙ sym (c .before .has-end2 .ensures) ∙ c .if2 .left in
+    (omega arith, before-skip isEnd s (l .i) 4 (omega arith) none (l .inv .1))
+
+returns : tie.Need-returns Inv-loop μ-loop Inv-loop2 μ-loop2
+returns c = omega arith
 
 returns-2 : tie.Need-returns-2 Inv-loop μ-loop Inv-loop2 μ-loop2
-returns-2 c = before-end isEnd (c .before .before .before .before .before .args .s .now) (c .before .loop2 .i) (omega arith) (c .before .loop2 .inv .1)
+returns-2 c = omega arith
 
-pub find-end-spec : {M : Type 1} → statement M
-find-end-spec =
+pub plain-spec : {M : Type 1} → statement M
+plain-spec =
     tie.close
     (tie.spec
     Inv-loop
@@ -97,9 +117,14 @@ find-end-spec =
     loop-less
     loop-again
     loop2-holds
-    shared-slice-read-x
-    returns
+    sub-loop2
+    add-e-2
+    sub-has-end-2
+    part-has-end-start-2
+    part-has-end-end-2
+    has-end-requires-2
     add-i-2
     loop2-less
     loop2-again
+    returns
     returns-2)
