@@ -17,11 +17,11 @@ use Rattle.receiver.proofs.Rows.{within}
 use Rattle.receiver.proofs.Receive.{Fits}
 use Rattle.listing.specs.declared.Listing.{Listing}
 use Rattle.listing.specs.declared.Listed.{Listed}
-use Rattle.listing.specs.Block.{Block, frameBlock, refusalBlock, blockOf, lines, framesIn, refusalsIn, totals, printed}
+use Rattle.texts.specs.Block.{Block, frameBlock, refusalBlock, blockOf, lines, framesIn, refusalsIn, totals, printed}
 use Rattle.listing.specs.Stream.{blocksOf, listingOf}
 use Rattle.listing.specs.Piece.{fresh, left, framesThen, refusalsThen, onward, soiOf, Part, rests, listing, Call, prints, list, Lists, closing}
 use Rattle.listing.specs.Calls.{Given, text, calls}
-use Rattle.listing.proofs.Texts.{lines-join, totals-short}
+use Rattle.texts.proofs.Texts.{lines-join, totals-short}
 use Rattle.listing.proofs.Streams.{blocksHere, fits-step, counted-back}
 
 -- ---- one answer for one input

@@ -6,8 +6,8 @@ use Rattle.hex.specs.Hex.{isHex, digitOf, charOf, allHex, pairOf, byteOf, byteA
 use Rattle.frame.specs.Frame.{CR, lchksum, sum, chksum}
 use Rattle.frame.specs.Judge.{need, header, lenid, judge}
 use Rattle.receiver.specs.Step.{kind, stepBy, step}
-use Rattle.listing.specs.Text.{decimalIn, decimal, line}
-use Rattle.listing.specs.Block.{frameLines, refusalLines, lines, framesIn, refusalsIn, totals, printed}
+use Rattle.texts.specs.Text.{decimalIn, decimal, line}
+use Rattle.texts.specs.Block.{frameLines, refusalLines, lines, framesIn, refusalsIn, totals, printed}
 use Rattle.listing.specs.Stream.{blocksFrom, blocksOf, listingOf}
 
 pub example : listingOf (ascii "~2002464F0000FD98" ++ CR ∷ ascii "~12" ++ CR ∷ [])

@@ -1,5 +1,3 @@
-pub mod Decimals
-pub mod Texts
 pub mod Parts
 pub mod Streams
 pub mod Calls

@@ -29,9 +29,9 @@ use Rattle.receiver.proofs.Receive.{Fits, after-fits}
 use Rattle.listing.specs.declared.Listing.{Listing}
 use Rattle.listing.specs.declared.Listed.{Listed}
 use Rattle.listing.specs.declared.Part.{Part as PartOf}
-use Rattle.listing.specs.Block.{Block, blockOf, lines, totals}
+use Rattle.texts.specs.Block.{Block, blockOf, lines, totals}
 use Rattle.listing.specs.Piece.{left, framesThen, refusalsThen, onward, soiOf, Part, rests, behind, listing, Call, refuses, prints, list, Lists, closing, Inside, turn, lenidOf, Puts}
-use Rattle.listing.proofs.Texts.{lines-join}
+use Rattle.texts.proofs.Texts.{lines-join}
 
 -- ---- LENID is never above 4,094
 

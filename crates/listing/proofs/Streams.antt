@@ -22,7 +22,7 @@ use Rattle.receiver.specs.Stream.{after}
 use Rattle.receiver.proofs.Rows.{step-within}
 use Rattle.receiver.proofs.Receive.{Fits, after-fits}
 use Rattle.receiver.proofs.Streams.{info-front}
-use Rattle.listing.specs.Block.{Block, refusalBlock, frameBlock, blockOf}
+use Rattle.texts.specs.Block.{Block, refusalBlock, frameBlock, blockOf}
 use Rattle.listing.specs.Stream.{lastSoi, blocksFrom, blocksOf}
 
 -- the blocks of a stream, with SOI counted back from the next byte

@@ -1,5 +1,3 @@
-pub mod Text
-pub mod Block
 pub mod Stream
 pub mod Piece
 pub mod Calls

@@ -16,7 +16,7 @@ use Rattle.receiver.specs.Run.{countOf, Run}
 use Rattle.listing.specs.declared.Listing.{Listing}
 use Rattle.listing.specs.declared.Part.{Part as PartOf}
 use Rattle.listing.specs.declared.Listed.{Listed}
-use Rattle.listing.specs.Block.{Block, blockOf, lines, totals}
+use Rattle.texts.specs.Block.{Block, blockOf, lines, totals}
 
 abbrev pub fresh : Listing
 fresh = record { receiver = Waiting; offset = 0; frames = 0; refusals = 0 }

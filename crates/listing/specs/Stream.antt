@@ -5,7 +5,7 @@ use lib.ListN.{take, replicate}
 use Rattle.receiver.specs.declared.Receiver.{Receiver}
 use Rattle.receiver.specs.declared.Receiver.the-variants.{Waiting}
 use Rattle.receiver.specs.Step.{Kind, soi, cr, other, kind, step}
-use Rattle.listing.specs.Block.{Block, printed, blockOf}
+use Rattle.texts.specs.Block.{Block, printed, blockOf}
 
 -- the offset of the last SOI, after a byte of this kind at this offset; it opened the stretch
 abbrev pub lastSoi : Kind → ℕ → ℕ → ℕ

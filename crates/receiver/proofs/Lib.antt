@@ -1,6 +1,7 @@
 pub mod Scans
 pub mod Rows
 pub mod Running
+pub mod Storing
 pub mod Receive
 pub mod Streams
 pub mod Pieces

@@ -22,6 +22,13 @@ pub or-second : (a b : Bool) → a || b ≡ false → b ≡ false
 or-second true b e = never (cc)
 or-second false b e = e
 
+-- two flags, each with its own test, are one flag with either
+pub or-cross : (a b c d : Bool) → (a || b) || (c || d) ≡ (a || c) || (b || d)
+or-cross true b c d = refl
+or-cross false true true d = refl
+or-cross false true false d = refl
+or-cross false false c d = refl
+
 module _ (test : ℕ → Bool) where
   -- a turn of a loop that looks at the byte at i, and its end
   pub any-turn : (s : List ℕ) (i : ℕ) (hit : Bool) → i < length s → (hit || test (getD s i 0)) || any test (drop (i + 1) s) ≡ hit || any test (drop i s)
@@ -71,6 +78,12 @@ module _ (test : ℕ → Bool) where
   unfolding before
   before-end s i h e = let cut : before test (drop i s) ≡ 0 = rw (drop-of-length-le s h) in omega arith
 
+  -- two parts of which none meets the test
+  pub none-both : (p q : List ℕ) → any test p ≡ false → any test q ≡ false → any test (p ++ q) ≡ false
+  unfolding any
+  none-both [] q e f = f
+  none-both (b ∷ p) q e f = rw (or-first (test b) (any test p) e) (none-both p q (or-second (test b) (any test p) e) f)
+
   -- before the first that meets the test none does
   free : (b : ℕ) (bs : List ℕ) (t : Bool) → test b ≡ t → any test (take (before test bs) bs) ≡ false → any test (take (cond t 0 (suc (before test bs))) (b ∷ bs)) ≡ false
   unfolding any
@@ -90,3 +103,27 @@ module _ (test : ℕ → Bool) where
   unfolding before
   before-le [] = omega arith
   before-le (b ∷ bs) = short (before test bs) (length bs) (test b) (before-le bs)
+
+  -- so many at most stand before the first: the others stand behind them, and none of them meets the test
+  drops : (k : ℕ) (bs : List ℕ) (t : Bool) → (k ≤ before test bs → before test bs ≡ k + before test (drop k bs))
+      → suc k ≤ cond t 0 (suc (before test bs)) → cond t 0 (suc (before test bs)) ≡ suc k + before test (drop k bs)
+  drops k bs true ih h = absurd (omega arith)
+  drops k bs false ih h = omega (arith, ih (omega arith))
+
+  pub before-drop : (s : List ℕ) (k : ℕ) → k ≤ before test s → before test s ≡ k + before test (drop k s)
+  unfolding before
+  before-drop s zero h = sym (zero-add (before test s))
+  before-drop [] (suc k) h = absurd (omega arith)
+  before-drop (b ∷ bs) (suc k) h = drops k bs (test b) (before-drop bs k) h
+
+  fronts : (k : ℕ) (b : ℕ) (bs : List ℕ) (t : Bool) → test b ≡ t → (k ≤ before test bs → any test (take k bs) ≡ false)
+      → suc k ≤ cond t 0 (suc (before test bs)) → any test (take (suc k) (b ∷ bs)) ≡ false
+  unfolding any
+  fronts k b bs true e ih h = absurd (omega arith)
+  fronts k b bs false e ih h = rw e (ih (omega arith))
+
+  pub before-none-of : (s : List ℕ) (k : ℕ) → k ≤ before test s → any test (take k s) ≡ false
+  unfolding any before
+  before-none-of s zero h = refl
+  before-none-of [] (suc k) h = refl
+  before-none-of (b ∷ bs) (suc k) h = fronts k b bs (test b) refl (before-none-of bs k) h

@@ -3,12 +3,14 @@ use mathlib.Core.Path.{_≡_}
 use mathlib.Core.Bool.{Bool, true, false, cond}
 use mathlib.Core.List.{List, [], _∷_}
 use Prim.Native.Nat.{ℕ, _+_, _≤_}
-use lib.ListN.{length, drop}
+use lib.ListN.{length, take, drop}
 use lib.Dec.{ltb}
+use Rattle.buffer.specs.Put.{Put}
 use Rattle.frame.specs.Judge.{Told, nothing, frame, refused}
 use Rattle.receiver.specs.declared.Receiver.{Receiver}
 use Rattle.receiver.specs.declared.Receiver.the-variants.{Waiting, Open}
 use Rattle.receiver.specs.declared.Ran.{Ran}
+use Rattle.receiver.specs.Scan.{isEnd, before}
 use Rattle.receiver.specs.Step.{After, beyond, step, paper}
 
 abbrev pub isNothing : Told → Bool
@@ -67,6 +69,11 @@ Runs r store piece answer store′ = runOf answer store′ ≡ run r store piece
 abbrev pub moved : Receiver → ℕ → Receiver
 moved Waiting k = Waiting
 moved (Open n) k = Open (n + k)
+
+-- k bytes at the start of s were stored from place at on, none of them SOI or CR
+pub record Stored (store : List ℕ) (at : ℕ) (s : List ℕ) (k : ℕ) (store′ : List ℕ) : Type 0 where
+  pub few : k ≤ before isEnd s
+  pub put : Put store at (take k s) store′ (at + k)
 
 -- k bytes at the start of a piece were passed, and stepping goes on from there as from the start
 pub record Passed (r : Receiver) (store piece : List ℕ) (k : ℕ) (store′ : List ℕ) : Type 0 where

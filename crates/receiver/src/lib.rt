@@ -1,12 +1,14 @@
 // The receiver: fed by bytes, it writes characters to a lent store and hands out frames, each at its own CR.
 
 ghost use mathlib.Core.Path.{_≡_};
+ghost use mathlib.Core.Bool.{cond};
 ghost use Prim.Native.Nat.{_≤_};
 ghost use lib.ListN.{length};
+ghost use Rattle.buffer.specs.Put.{Room};
 ghost use Rattle.frame.specs.Judge.{paper as paperJudged};
 ghost use Rattle.receiver.specs.Scan.{isSoi, isEnd, any, before};
 ghost use Rattle.receiver.specs.Step.{paper, beyond, Steps};
-ghost use Rattle.receiver.specs.Run.{isNothing, countOf, moved, Passed, Runs};
+ghost use Rattle.receiver.specs.Run.{isNothing, countOf, moved, Stored, Passed, Runs};
 use frame::CR;
 use frame::Header;
 use frame::Judged;
@@ -40,8 +42,20 @@ pub struct Ran {
     pub held: usize,
 }
 
-// The bytes of a block that is scanned at once.
+// The bytes of a block that is scanned at once while waiting, and in a stretch.
+const WIDE: usize = 128;
+
 const BLOCK: usize = 32;
+
+// The bytes at the end of a scan, which are stored with no branch on any of them.
+const FEW: usize = 4;
+
+// Whether a byte is SOI or CR.
+fn is_end(x: u8) -> bool
+    ensures { λ r. ⌜ r ≡ isEnd x ⌝ }
+{
+    (x == SOI) | (x == CR)
+}
 
 // Whether a SOI is among the bytes. No early exit, so that the loop is compiled to vector code.
 fn has_soi(s: &[u8]) -> bool
@@ -56,32 +70,40 @@ fn has_soi(s: &[u8]) -> bool
     hit
 }
 
-// Whether a SOI or a CR is.
+// Whether a SOI or a CR is. Two flags: with one the compiler finds no vector code that is worth it.
 fn has_end(s: &[u8]) -> bool
     ensures { λ r. ⌜ r ≡ any isEnd (now (s .entry)) ⌝ }
 {
-    let mut hit = false;
+    let mut soi = false;
+    let mut cr = false;
     let mut i: usize = 0;
     while i < s.len() {
         let x = s[i];
-        hit = hit | ((x == SOI) | (x == CR));
+        soi = soi | (x == SOI);
+        cr = cr | (x == CR);
         i += 1;
     }
-    hit
+    soi | cr
 }
 
-// The place of the first SOI, or the length: block by block, then byte by byte in the block that has it. It and `find_end` are two
-// functions, and not one with two bytes to look for: with the bytes written out both are compiled to a compare of vectors.
+// The place of the first SOI, or the length. Where frames follow each other it is the first byte; else block by block, then byte by byte
+// in the block that has it.
 fn find_soi(s: &[u8]) -> usize
     ensures { λ r. ⌜ r ≡ before isSoi (now (s .entry)) ⌝ }
 {
+    if s.len() == 0 {
+        return 0;
+    }
+    if s[0] == SOI {
+        return 0;
+    }
     let mut i: usize = 0;
-    while BLOCK <= s.len() - i {
-        let e = i + BLOCK;
+    while WIDE <= s.len() - i {
+        let e = i + WIDE;
         if has_soi(&s[i..e]) {
             break;
         }
-        i += BLOCK;
+        i += WIDE;
     }
     while i < s.len() {
         if s[i] == SOI {
@@ -92,9 +114,9 @@ fn find_soi(s: &[u8]) -> usize
     i
 }
 
-// The place of the first SOI or CR, or the length.
-fn find_end(s: &[u8]) -> usize
-    ensures { λ r. ⌜ r ≡ before isEnd (now (s .entry)) ⌝ }
+// How many bytes at the start are neither SOI nor CR, counted in fours: block by block, then four by four.
+fn plain(s: &[u8]) -> usize
+    ensures { λ r. ⌜ r ≤ before isEnd (now (s .entry)) ⌝ }
 {
     let mut i: usize = 0;
     while BLOCK <= s.len() - i {
@@ -104,12 +126,12 @@ fn find_end(s: &[u8]) -> usize
         }
         i += BLOCK;
     }
-    while i < s.len() {
-        let x = s[i];
-        if (x == SOI) | (x == CR) {
-            return i;
+    while FEW <= s.len() - i {
+        let e = i + FEW;
+        if has_end(&s[i..e]) {
+            break;
         }
-        i += 1;
+        i += FEW;
     }
     i
 }
@@ -187,15 +209,48 @@ fn open_step(store: &mut [u8], count: usize, byte: u8) -> Stepped
     }
 }
 
-// Stores the bytes of a piece before its first SOI or CR from place count on, as many as may be, and answers how many.
+fn pick(first: bool, a: u8, b: u8) -> u8
+    ensures { λ r. ⌜ r ≡ cond first a b ⌝ }
+{
+    if first { a } else { b }
+}
+
+fn one_if(more: bool) -> usize
+    ensures { λ r. ⌜ r ≡ cond more 1 0 ⌝ }
+{
+    if more { 1 } else { 0 }
+}
+
+// Stores those of the first four bytes that stand before a SOI or a CR, and answers how many: each place gets its byte or what it has.
+// So where the stretch ends is no branch, which would be mispredicted in noise.
+fn store_few(store: &mut [u8], at: usize, s: &[u8]) -> usize
+    requires { ⌜ Room (now store) at (now s) ⌝ }
+    ensures { λ r. ⌜ Stored (now (store .entry)) at (now (s .entry)) r (now (store .exit)) ⌝ }
+{
+    if s.len() < FEW {
+        return 0;
+    }
+    let mut k: usize = 0;
+    let mut j: usize = 0;
+    while j < FEW {
+        let x = s[j];
+        let more = (k == j) & !is_end(x);
+        store[at + j] = pick(more, x, store[at + j]);
+        k += one_if(more);
+        j += 1;
+    }
+    k
+}
+
+// Stores bytes of a piece before its first SOI or CR from place count on, as many as may be or nearly so, and answers how many.
 fn store_plain(store: &mut [u8], count: usize, piece: &[u8]) -> usize
     requires { ⌜ (4110 ≤ length (now store)) × (count ≤ 4110) ⌝ }
     ensures { λ r. ⌜ Passed (Receiver.Open count) (now (store .entry)) (now (piece .entry)) r (now (store .exit)) ⌝ }
 {
     let most = least(MOST - count, piece.len());
-    let k = find_end(&piece[..most]);
-    buffer::put_all(store, count, &piece[..k]);
-    k
+    let k = plain(&piece[..most]);
+    let next = buffer::put_all(store, count, &piece[..k]);
+    k + store_few(store, next, &piece[k..most])
 }
 
 impl Receiver {

@@ -3,9 +3,9 @@ use mathlib.Core.Path.{sym, subst}
 use Prim.Native.Nat.{_-_, _≤_}
 use native.Mathlib.Omega.{arith}
 use borrow.Author.Needs.{needs}
-use Rattle.listing.proofs.Texts.{refusal-short, lines-one}
+use Rattle.texts.proofs.Texts.{refusal-short, lines-one}
 use Rattle.listing.specs.Piece.{lenidOf}
-use Rattle.listing.specs.Block.{frameBlock, refusalBlock, lines, blockOf}
+use Rattle.texts.specs.Block.{frameBlock, refusalBlock, lines, blockOf}
 use Rattle.receiver.specs.declared.Event.the-variants.{Frame}
 use Rattle.receiver.specs.declared.Event.{Event}
 use Rattle.receiver.specs.Step.{paper}

@@ -6,8 +6,8 @@ use native.Mathlib.Omega.{arith}
 use lib.Seq.{length-take-le}
 use lib.ListN.{length, take, drop, length-drop}
 use borrow.Author.Needs.{needs}
-use Rattle.listing.proofs.Texts.{frame-short}
-use Rattle.listing.specs.Block.{frameLines}
+use Rattle.texts.proofs.Texts.{frame-short}
+use Rattle.texts.specs.Block.{frameLines}
 use Rattle.buffer.specs.Put.{Put}
 use Rattle.listing.proofs.put_stored.Statement.{statement}
 use Rattle.listing.proofs.put_stored.Tie as tie

@@ -23,8 +23,21 @@ Inv-loop2 s i₀ i = (i ≤ length s) × (before isSoi s ≡ i + before isSoi (d
 abbrev μ-loop2 : tie.MeasureT-loop2
 μ-loop2 s i₀ i = length s - i
 
+returns : tie.Need-returns Inv-loop μ-loop Inv-loop2 μ-loop2
+returns c =
+    let s = c .before .before .args .s .now in
+    before-end isSoi s 0 (omega arith) (sym (zero-add (before isSoi s)))
+
+shared-slice-read-if2 : tie.Need-shared-slice-read-if2 Inv-loop μ-loop Inv-loop2 μ-loop2
+shared-slice-read-if2 c = omega arith
+
+returns-2 : tie.Need-returns-2 Inv-loop μ-loop Inv-loop2 μ-loop2
+returns-2 c =
+    let s = c .before .before .before .before .args .s .now in
+    before-here isSoi s 0 (omega arith) (eq-eqb _ _ (c .if2 .taken)) (sym (zero-add (before isSoi s)))
+
 loop-holds : tie.Need-loop-holds Inv-loop μ-loop Inv-loop2 μ-loop2
-loop-holds c = (omega arith, sym (zero-add (before isSoi (c .before .args .s .now))))
+loop-holds c = (omega arith, sym (zero-add (before isSoi (c .before .before .before .before .args .s .now))))
 
 sub-loop : tie.Need-sub-loop Inv-loop μ-loop Inv-loop2 μ-loop2
 sub-loop c = omega arith
@@ -53,19 +66,21 @@ loop-less c = omega arith
 loop-again : tie.Need-loop-again Inv-loop μ-loop Inv-loop2 μ-loop2
 loop-again c =
     let l = c .before .before .before .before .loop in
-    let s = c .before .before .before .before .before .before .args .s .now in
-    let width : 32 ≡ l .i + 32 - l .i = omega arith in
-    let none : any isSoi (take 32 (drop (l .i) s)) ≡ false = ap (λ (k : ℕ). any isSoi (take k (drop (l .i) s))) width ∙ sym (c .before .has-soi .ensures) ∙ c .if1 .left in
-    (omega arith, before-skip isSoi s (l .i) 32 (omega arith) none (l .inv .1))
+    let s = c .before .before .before .before .before .before .before .before .before .args .s .now in
+    let width : 128 ≡ l .i + 128 - l .i = omega arith in
+    let none : any isSoi (take 128 (drop (l .i) s)) ≡ false = ap (λ (k : ℕ). any isSoi (take k (drop (l .i) s))) width ∙ sym (c .before .has-soi .ensures) ∙ c .if3 .left in
+    (omega arith, before-skip isSoi s (l .i) 128 (omega arith) none (l .inv .1))
 
 loop2-holds : tie.Need-loop2-holds Inv-loop μ-loop Inv-loop2 μ-loop2
 loop2-holds c = c .before .loop .inv
 
-shared-slice-read-if2 : tie.Need-shared-slice-read-if2 Inv-loop μ-loop Inv-loop2 μ-loop2
-shared-slice-read-if2 c = omega arith
+shared-slice-read-if4 : tie.Need-shared-slice-read-if4 Inv-loop μ-loop Inv-loop2 μ-loop2
+shared-slice-read-if4 c = omega arith
 
-returns : tie.Need-returns Inv-loop μ-loop Inv-loop2 μ-loop2
-returns c = before-here isSoi (c .before .before .before .before .before .before .before .args .s .now) (c .before .before .before .loop2 .i) (omega arith) (eq-eqb _ _ (c .if2 .taken)) (c .before .before .before .loop2 .inv .1)
+returns-3 : tie.Need-returns-3 Inv-loop μ-loop Inv-loop2 μ-loop2
+returns-3 c =
+    let l = c .before .before .before .loop2 in
+    before-here isSoi (c .before .before .before .before .before .before .before .before .before .before .args .s .now) (l .i) (omega arith) (eq-eqb _ _ (c .if4 .taken)) (l .inv .1)
 
 add-i-2 : tie.Need-add-i-2 Inv-loop μ-loop Inv-loop2 μ-loop2
 add-i-2 c = omega arith
@@ -74,10 +89,12 @@ loop2-less : tie.Need-loop2-less Inv-loop μ-loop Inv-loop2 μ-loop2
 loop2-less c = omega arith
 
 loop2-again : tie.Need-loop2-again Inv-loop μ-loop Inv-loop2 μ-loop2
-loop2-again c = (omega arith, before-one isSoi (c .before .before .before .before .before .before .before .args .s .now) (c .before .before .before .loop2 .i) (omega arith) (ne-eqb _ _ (c .if2 .left)) (c .before .before .before .loop2 .inv .1))
+loop2-again c =
+    let l = c .before .before .before .loop2 in
+    (omega arith, before-one isSoi (c .before .before .before .before .before .before .before .before .before .before .args .s .now) (l .i) (omega arith) (ne-eqb _ _ (c .if4 .left)) (l .inv .1))
 
-returns-2 : tie.Need-returns-2 Inv-loop μ-loop Inv-loop2 μ-loop2
-returns-2 c = before-end isSoi (c .before .before .before .before .before .args .s .now) (c .before .loop2 .i) (omega arith) (c .before .loop2 .inv .1)
+returns-4 : tie.Need-returns-4 Inv-loop μ-loop Inv-loop2 μ-loop2
+returns-4 c = before-end isSoi (c .before .before .before .before .before .before .before .before .args .s .now) (c .before .loop2 .i) (omega arith) (c .before .loop2 .inv .1)
 
 pub find-soi-spec : {M : Type 1} → statement M
 find-soi-spec =
@@ -87,6 +104,9 @@ find-soi-spec =
     μ-loop
     Inv-loop2
     μ-loop2
+    returns
+    shared-slice-read-if2
+    returns-2
     loop-holds
     sub-loop
     add-e
@@ -98,9 +118,9 @@ find-soi-spec =
     loop-less
     loop-again
     loop2-holds
-    shared-slice-read-if2
-    returns
+    shared-slice-read-if4
+    returns-3
     add-i-2
     loop2-less
     loop2-again
-    returns-2)
+    returns-4)

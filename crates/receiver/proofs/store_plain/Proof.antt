@@ -1,24 +1,28 @@
--- What was scanned has no SOI and no CR, and is copied whole.
-use mathlib.Core.Bool.{false}
-use mathlib.Core.Path.{_≡_, sym, ap, _∙_}
+-- What was scanned has no SOI and no CR and is copied whole; of the bytes behind it some are stored too.
 use Prim.Native.Nat.{ℕ, _-_, _≤_}
+use mathlib.Core.Path.{_≡_, sym}
 use native.Mathlib.Omega.{arith}
-use lib.Seq.{length-take-le, take-take}
-use lib.ListN.{length, take}
+use lib.Seq.{length-take-le}
+use lib.ListN.{length, take, drop, length-drop}
 use borrow.Author.Needs.{needs}
-use Rattle.receiver.proofs.Running.{passed-open}
-use Rattle.receiver.proofs.Scans.{before-le, before-free}
-use Rattle.receiver.specs.Step.{After}
-use Rattle.receiver.specs.Scan.{isEnd, any, before}
+use Rattle.receiver.proofs.Scans.{before-le}
+use Rattle.receiver.proofs.Storing.{passed-both}
+use Rattle.receiver.specs.Scan.{isEnd}
 use Rattle.receiver.proofs.store_plain.Statement.{statement}
 use Rattle.receiver.proofs.store_plain.Tie as tie
 
 -- no more was found than may be stored
-few : (c : tie.After-find-end) → c .find-end .result ≤ c .before .before .least .result
+few : (c : tie.After-plain) → c .plain .result ≤ c .before .before .least .result
 few c =
     let piece = c .before .before .before .before .before .args .piece .now in
     let most : ℕ = c .before .before .least .result in
-    omega (arith, c .find-end .ensures, before-le isEnd (take most piece), length-take-le most piece (c .before .before .least .ensures .1))
+    omega (arith, c .plain .ensures, before-le isEnd (take most piece), length-take-le most piece (c .before .before .least .ensures .1))
+
+-- as many as are left behind it
+behind : (c : tie.After-plain) → length (take (c .before .before .least .result - c .plain .result) (drop (c .plain .result) (c .before .before .before .before .before .args .piece .now))) ≡ c .before .before .least .result - c .plain .result
+behind c =
+    let piece = c .before .before .before .before .before .args .piece .now in
+    length-take-le (c .before .before .least .result - c .plain .result) (drop (c .plain .result) piece) (omega (arith, few c, c .before .before .least .ensures, length-drop (c .plain .result) piece))
 
 sub-least : tie.Need-sub-least
 sub-least c = search needs
@@ -26,11 +30,11 @@ sub-least c = search needs
 least-requires : tie.Need-least-requires
 least-requires c κs = search needs
 
-slice-aggregate-find-end : tie.Need-slice-aggregate-find-end
-slice-aggregate-find-end c = sym (length-take-le _ _ (omega arith))
+slice-aggregate-plain : tie.Need-slice-aggregate-plain
+slice-aggregate-plain c = sym (length-take-le _ _ (omega arith))
 
-find-end-requires : tie.Need-find-end-requires
-find-end-requires c κs = search needs
+plain-requires : tie.Need-plain-requires
+plain-requires c κs = search needs
 
 slice-aggregate-put-all : tie.Need-slice-aggregate-put-all
 slice-aggregate-put-all c = sym (length-take-le _ _ (omega (arith, few (c .before .before), c .before .before .before .before .least .ensures)))
@@ -38,24 +42,43 @@ slice-aggregate-put-all c = sym (length-take-le _ _ (omega (arith, few (c .befor
 put-all-requires : tie.Need-put-all-requires
 put-all-requires c κs =
     let found = c .before .before in
-    let k : ℕ = c .before .before .find-end .result in
-    record { fits = omega (arith, few found, c .before .before .before .before .least .ensures, c .before .before .before .before .before .before .before .pre, length-take-le k (c .before .before .before .before .before .before .before .args .piece .now) (omega (arith, few found, c .before .before .before .before .least .ensures))) }
+    let least = c .before .before .before .before .least in
+    let start = c .before .before .before .before .before .before .before in
+    record { fits = omega (arith, few found, least .ensures, start .pre, length-take-le (found .plain .result) (start .args .piece .now) (omega (arith, few found, least .ensures))) }
+
+sub-store-few : tie.Need-sub-store-few
+sub-store-few c = omega (arith, few (c .before .before .before .before .before .before))
+
+part-store-few-start : tie.Need-part-store-few-start
+part-store-few-start c = omega (arith, few (c .before .before .before .before .before .before))
+
+part-store-few-end : tie.Need-part-store-few-end
+part-store-few-end c = search needs
+
+store-few-requires : tie.Need-store-few-requires
+store-few-requires c κs =
+    let found = c .before .before .before .before .before .before .before in
+    let least = c .before .before .before .before .before .before .before .before .before .least in
+    let start = c .before .before .before .before .before .before .before .before .before .before .before .before in
+    record { fits = omega (arith, few found, behind found, least .ensures, start .pre, length-take-le (found .plain .result) (start .args .piece .now) (omega (arith, few found, least .ensures)), c .before .before .before .before .put-all .ensures .end, c .before .before .before .before .put-all .kept .0) }
+
+add-result : tie.Need-add-result
+add-result c =
+    let found = c .before .before .before .before .before .before .before .before .before .before in
+    let least = c .before .before .before .before .before .before .before .before .before .before .before .before .least in
+    let s = take (least .result - found .plain .result) (drop (found .plain .result) (c .before .before .before .before .before .before .before .before .before .before .before .before .before .before .before .args .piece .now)) in
+    omega (arith, few found, behind found, least .ensures, c .before .before .store-few .ensures .few, before-le isEnd s)
 
 same-length : tie.Need-same-length
 same-length c = search needs
 
 returns : tie.Need-returns
 returns c =
-    let found = c .before .before .before .before .before in
-    let least = c .before .before .before .before .before .before .before .least in
-    let a = c .before .before .before .before .before .before .before .before .before .before .args in
-    let k : ℕ = c .before .before .before .before .before .find-end .result in
-    let inside : k ≤ length (a .piece .now) = omega (arith, few found, least .ensures) in
-    let none : any isEnd (take k (a .piece .now)) ≡ false =
-    ap (any isEnd) (sym (take-take k (least .result) (a .piece .now) (few found)))
-    ∙ ap (λ (m : ℕ). any isEnd (take m (take (least .result) (a .piece .now)))) (c .before .before .before .before .before .find-end .ensures)
-    ∙ before-free isEnd (take (least .result) (a .piece .now)) in
-    passed-open (a .count) (a .store .now) (a .piece .now) _ k _ (c .before .before .before .before .before .before .before .before .before .before .pre .0) none inside (omega (arith, few found, least .ensures, c .before .before .before .before .before .before .before .before .before .before .pre)) (c .before .before .put-all .ensures)
+    let found = c .before .before .before .before .before .before .before .before .before .before in
+    let least = c .before .before .before .before .before .before .before .before .before .before .before .before .least in
+    let start = c .before .before .before .before .before .before .before .before .before .before .before .before .before .before .before in
+    let a = start .args in
+    passed-both (a .count) (a .store .now) (a .piece .now) _ _ (least .result) (found .plain .result) (c .before .before .store-few .result) _ (start .pre .0) (omega (arith, least .ensures, start .pre)) (least .ensures .1) (found .plain .ensures) (c .before .before .before .before .before .before .before .put-all .ensures) (c .before .before .store-few .ensures)
 
 pub store-plain-spec : {M : Type 1} → statement M
 store-plain-spec =
@@ -63,9 +86,14 @@ store-plain-spec =
     (tie.spec
     sub-least
     least-requires
-    slice-aggregate-find-end
-    find-end-requires
+    slice-aggregate-plain
+    plain-requires
     slice-aggregate-put-all
     put-all-requires
+    sub-store-few
+    part-store-few-start
+    part-store-few-end
+    store-few-requires
+    add-result
     same-length
     returns)

@@ -4,9 +4,9 @@ use native.Mathlib.Omega.{arith}
 use lib.ListN.{length}
 use borrow.Author.Tests.{le-leb, lt-leb}
 use borrow.Author.Needs.{needs}
-use Rattle.listing.proofs.Texts.{totals-short}
+use Rattle.texts.proofs.Texts.{totals-short}
 use Rattle.listing.specs.Piece.{left}
-use Rattle.listing.specs.Block.{totals}
+use Rattle.texts.specs.Block.{totals}
 use Rattle.buffer.proofs.Writers.{writing-fault, writing-all}
 use Rattle.listing.proofs.Listing.close.Statement.{statement}
 use Rattle.listing.proofs.Listing.close.Tie as tie

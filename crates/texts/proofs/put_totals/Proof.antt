@@ -1,0 +1,40 @@
+-- Two lines, one after the other.
+use Prim.Native.Nat.{_-_}
+use borrow.Author.Needs.{needs}
+use Rattle.texts.specs.Block.{totals}
+use Rattle.texts.specs.Text.{FRAMES, REFUSALS, decimal, line}
+use Rattle.buffer.proofs.Puts.{put-then, room-first, room-rest}
+use Rattle.texts.proofs.put_totals.Statement.{statement}
+use Rattle.texts.proofs.put_totals.Tie as tie
+
+slice-aggregate-put-number-line : tie.Need-slice-aggregate-put-number-line
+slice-aggregate-put-number-line c = search needs
+
+put-number-line-requires : tie.Need-put-number-line-requires
+unfolding totals
+put-number-line-requires c κs = room-first (line FRAMES (decimal (c .before .before .before .args .frames))) (line REFUSALS (decimal (c .before .before .before .args .refusals))) (c .before .before .before .pre)
+
+slice-aggregate-put-number-line-2 : tie.Need-slice-aggregate-put-number-line-2
+slice-aggregate-put-number-line-2 c = search needs
+
+put-number-line-requires-2 : tie.Need-put-number-line-requires-2
+unfolding totals
+put-number-line-requires-2 c κs = room-rest (line FRAMES (decimal (c .before .before .before .before .before .before .before .before .args .frames))) (line REFUSALS (decimal (c .before .before .before .before .before .before .before .before .args .refusals))) (c .before .before .before .before .before .before .before .before .pre) (c .before .before .before .before .put-number-line .ensures) (c .before .before .before .before .put-number-line .kept .0)
+
+same-length : tie.Need-same-length
+same-length c = search needs
+
+returns : tie.Need-returns
+unfolding totals
+returns c = put-then (room-first (line FRAMES (decimal (c .before .before .before .before .before .before .before .before .before .before .before .args .frames))) (line REFUSALS (decimal (c .before .before .before .before .before .before .before .before .before .before .before .args .refusals))) (c .before .before .before .before .before .before .before .before .before .before .before .pre)) (c .before .before .before .before .before .before .before .put-number-line .ensures) (c .before .before .put-number-line2 .ensures)
+
+pub put-totals-spec : {M : Type 1} → statement M
+put-totals-spec =
+    tie.close
+    (tie.spec
+    slice-aggregate-put-number-line
+    put-number-line-requires
+    slice-aggregate-put-number-line-2
+    put-number-line-requires-2
+    same-length
+    returns)
