@@ -2,7 +2,7 @@
 use mathlib.Core.Path.{_≡_, refl, sym, ap, _∙_, subst}
 use mathlib.Core.Bool.{Bool, true, false, not, cond}
 use mathlib.Core.List.{List, [], _∷_}
-use Prim.Native.Nat.{ℕ, zero, suc, _+_, _≤_, _<_}
+use Prim.Native.Nat.{ℕ, zero, suc, _≤_, _<_}
 use native.Mathlib.Nat.{not-suc-le-zero, le-of-suc-le-suc}
 use native.Mathlib.Omega.{arith}
 use lib.ListN.{length, getD, set, take, replicate}
@@ -10,10 +10,9 @@ use lib.Dec.{leb, ltb, leb→le, nleb→lt, ltb→lt, nltb→le, T}
 use borrow.Author.Tests.{le-leb, lt-leb}
 use Rattle.record.specs.declared.Module.{Module}
 use Rattle.table.specs.declared.Table.{Table}
-use Rattle.table.specs.declared.Station.{Station}
 use Rattle.table.specs.Table.{blank, members}
-use Rattle.table.specs.Rule.{rising, rule, keeps}
-use Rattle.lent.specs.Loaded.{over, loaded, empty, placed}
+use Rattle.table.specs.Rule.{rule, keeps}
+use Rattle.lent.specs.Loaded.{over, loaded, empty}
 
 -- ---- a record after the other
 
@@ -36,6 +35,9 @@ take-all [] (suc i) h = refl
 take-all (m ∷ ms) zero h = absurd (not-suc-le-zero h)
 take-all (m ∷ ms) (suc i) h = ap (λ (z : List Module). m ∷ z) (take-all ms i (le-of-suc-le-suc h))
 
+abbrev pub placed : Table → ℕ → Module → Table
+placed t i m = record { count = t .count; modules = set (t .modules) i m }
+
 -- the table with the first i records in it
 abbrev pub part : List Module → ℕ → Table
 part ms i = record { count = length ms; modules = over (replicate 12 blank) (take i ms) }
@@ -46,9 +48,28 @@ none-yet ms = ap (λ (row : List Module). record { count = length ms; modules = 
 pub one-in : (ms : List Module) (i : ℕ) (d : Module) → i < length ms → placed (part ms i) i (getD ms i d) ≡ part ms (suc i)
 one-in ms i d h = ap (λ (row : List Module). record { count = length ms; modules = row }) (set-over (replicate 12 blank) ms i d h)
 
-pub all-in : (ms : List Module) (i : ℕ) → length ms ≤ i → part ms i ≡ loaded ms
+-- the lesser of a count and twelve
+pub least-is : (k n : ℕ) → n ≡ cond (ltb k 12) k 12 → (n ≤ k) × (n ≤ 12)
+least-is k n e = pick (ltb k 12) refl e
+  where
+    pick : (b : Bool) → ltb k 12 ≡ b → n ≡ cond b k 12 → (n ≤ k) × (n ≤ 12)
+    pick true t h = let small : k < 12 = ltb→lt k 12 (subst T (sym t) tt) in (omega (arith, h), omega (arith, h, small))
+    pick false t h = let large : 12 ≤ k = nltb→le k 12 (subst (λ (b : Bool). T (not b)) (sym t) tt) in (omega (arith, h, large), omega (arith, h))
+
+over-take : (row ms : List Module) (i : ℕ) → length row ≤ i → over row (take i ms) ≡ over row ms
+unfolding over
+over-take [] ms i h = refl
+over-take (r ∷ row) ms zero h = absurd (not-suc-le-zero h)
+over-take (r ∷ row) [] (suc i) h = refl
+over-take (r ∷ row) (m ∷ ms) (suc i) h = ap (λ (z : List Module). m ∷ z) (over-take row ms i (le-of-suc-le-suc h))
+
+pub all-in : (ms : List Module) (n i : ℕ) → n ≡ cond (ltb (length ms) 12) (length ms) 12 → n ≤ i → part ms i ≡ loaded ms
 unfolding loaded
-all-in ms i h = ap (λ (z : List Module). record { count = length ms; modules = over (replicate 12 blank) z }) (take-all ms i h)
+all-in ms n i e h = ap (λ (row : List Module). record { count = length ms; modules = row }) (pick (ltb (length ms) 12) e)
+  where
+    pick : (b : Bool) → n ≡ cond b (length ms) 12 → over (replicate 12 blank) (take i ms) ≡ over (replicate 12 blank) ms
+    pick true k = ap (over (replicate 12 blank)) (take-all ms i (omega (arith, k, h)))
+    pick false k = over-take (replicate 12 blank) ms i (omega (arith, k, h))
 
 -- ---- its records, and its rule
 
@@ -91,21 +112,6 @@ loaded-keeps ms = by-loaded (λ (b : Bool) (xs : List Module). b) ms (λ xs ys. 
 
 -- ---- back into a lent table
 
--- the lesser of a count and twelve
-pub least-is : (k n : ℕ) → n ≡ cond (ltb k 12) k 12 → (n ≤ k) × (n ≤ 12)
-least-is k n e = pick (ltb k 12) refl e
-  where
-    pick : (b : Bool) → ltb k 12 ≡ b → n ≡ cond b k 12 → (n ≤ k) × (n ≤ 12)
-    pick true t h = let small : k < 12 = ltb→lt k 12 (subst T (sym t) tt) in (omega (arith, h), omega (arith, h, small))
-    pick false t h = let large : 12 ≤ k = nltb→le k 12 (subst (λ (b : Bool). T (not b)) (sym t) tt) in (omega (arith, h, large), omega (arith, h))
-
-over-take : (row ms : List Module) (i : ℕ) → length row ≤ i → over row (take i ms) ≡ over row ms
-unfolding over
-over-take [] ms i h = refl
-over-take (r ∷ row) ms zero h = absurd (not-suc-le-zero h)
-over-take (r ∷ row) [] (suc i) h = refl
-over-take (r ∷ row) (m ∷ ms) (suc i) h = ap (λ (z : List Module). m ∷ z) (over-take row ms i (le-of-suc-le-suc h))
-
 pub over-short : (row ms : List Module) (n i : ℕ) → n ≡ cond (ltb (length row) 12) (length row) 12 → length ms ≡ 12 → n ≤ i → over row (take i ms) ≡ over row ms
 over-short row ms n i e full h = pick (ltb (length row) 12) e
   where
@@ -130,9 +136,3 @@ unfolding over
 length-over [] ms = refl
 length-over (r ∷ row) [] = refl
 length-over (r ∷ row) (m ∷ ms) = ap suc (length-over row ms)
-
--- a record that is there, whatever stands past the end
-pub any-default : (ms : List Module) (i : ℕ) (d e : Module) → i < length ms → getD ms i d ≡ getD ms i e
-any-default [] i d e h = absurd (not-suc-le-zero h)
-any-default (m ∷ ms) zero d e h = refl
-any-default (m ∷ ms) (suc i) d e h = any-default ms i d e (le-of-suc-le-suc h)

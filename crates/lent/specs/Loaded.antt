@@ -1,7 +1,7 @@
 -- A lent table by value: how many records it has, and the first twelve of them, with blank records in the other places.
 use mathlib.Core.List.{List, [], _∷_}
 use Prim.Native.Nat.{ℕ}
-use lib.ListN.{length, set, replicate}
+use lib.ListN.{length, replicate}
 use Rattle.record.specs.declared.Module.{Module}
 use Rattle.table.specs.declared.Table.{Table}
 use Rattle.table.specs.Table.{blank}
@@ -15,10 +15,5 @@ over (r ∷ row) (m ∷ ms) = m ∷ over row ms
 unfoldable pub loaded : List Module → Table
 loaded ms = record { count = length ms; modules = over (replicate 12 blank) ms }
 
--- ---- the same, a record after the other
-
 abbrev pub empty : ℕ → Table
 empty count = record { count = count; modules = replicate 12 blank }
-
-abbrev pub placed : Table → ℕ → Module → Table
-placed t place m = record { count = t .count; modules = set (t .modules) place m }

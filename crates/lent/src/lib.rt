@@ -3,9 +3,7 @@
 ghost use mathlib.Core.Path.{_≡_};
 ghost use mathlib.Core.Bool.{cond};
 ghost use lib.Dec.{ltb};
-ghost use lib.ListN.{getD};
-ghost use Rattle.table.specs.Table.{blank};
-ghost use Rattle.lent.specs.Loaded.{over, empty, placed, loaded};
+ghost use Rattle.lent.specs.Loaded.{over, empty, loaded};
 use record::Module;
 use table::Table;
 
@@ -19,31 +17,6 @@ fn empty_table(count: usize) -> Table
     }
 }
 
-// A record at a place; from place 12 on nothing changes.
-fn place(to: Table, at: usize, given: Module) -> Table
-    ensures { λ r. ⌜ r ≡ placed to at given ⌝ }
-{
-    let count = to.count;
-    let mut modules = to.modules;
-    if at < 12 {
-        modules[at] = given;
-    }
-    Table { count, modules }
-}
-
-// The lent table by value: how many records it has, and the first twelve of them.
-pub fn load(table: &[Module]) -> Table
-    ensures { λ r. ⌜ r ≡ loaded (now (table .entry)) ⌝ }
-{
-    let mut all = empty_table(table.len());
-    let mut i = 0;
-    while i < table.len() {
-        all = place(all, i, table[i]);
-        i = i + 1;
-    }
-    all
-}
-
 // How many of so many records a table by value has places for.
 fn shorter(n: usize) -> usize
     ensures { λ r. ⌜ r ≡ cond (ltb n 12) n 12 ⌝ }
@@ -54,13 +27,18 @@ fn shorter(n: usize) -> usize
     12
 }
 
-fn record_in(given: Table, at: usize) -> Module
-    ensures { λ r. ⌜ r ≡ getD (given .modules) at blank ⌝ }
+// The lent table by value: how many records it has, and the first twelve of them.
+pub fn load(table: &[Module]) -> Table
+    ensures { λ r. ⌜ r ≡ loaded (now (table .entry)) ⌝ }
 {
-    if at < 12 {
-        return given.modules[at];
+    let n = shorter(table.len());
+    let mut all = empty_table(table.len());
+    let mut i = 0;
+    while i < n {
+        all.modules[i] = table[i];
+        i = i + 1;
     }
-    table::blank_module()
+    all
 }
 
 // Puts the records of a table by value over those of the lent one.
@@ -70,7 +48,7 @@ pub fn store(table: &mut [Module], from: Table)
     let n = shorter(table.len());
     let mut i = 0;
     while i < n {
-        table[i] = record_in(from, i);
+        table[i] = from.modules[i];
         i = i + 1;
     }
 }

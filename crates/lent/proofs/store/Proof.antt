@@ -1,9 +1,9 @@
--- `lent::store` meets its contract: a walk of its MIR, by hand, with a loop. Each turn has record i of the table by value from `record_in`, opens the borrow, and stores it in place i.
+-- `lent::store` meets its contract: a walk of its MIR, by hand, with a loop. Each turn reads record i of the table by value, which lies in a local, opens the borrow, and stores it in place i.
 --     X        the loop's state: i, the list then, that it has the first i records of the table over its own, and its length
 --     I x      the context at the head of the loop.        more, ends      a turn that stores one, and the turn that leaves, with the rest of the body
 use mathlib.Core.Path.{_≡_, refl, sym, _∙_, ap, subst}
-use Prim.Native.Nat.{ℕ, suc, zero-le, _<_, _≤_, _^_, _*_, _+_, _-_}
-use native.Mathlib.Nat.{lt-of-le-of-lt, lt-trans, lt-of-lt-of-le}
+use Prim.Native.Nat.{ℕ, suc, zero-le, _<_, _^_, _*_, _+_, _-_}
+use native.Mathlib.Nat.{lt-of-le-of-lt, lt-of-lt-of-le}
 use native.Mathlib.Omega.{arith}
 use mathlib.Core.Bool.{Bool, not, cond}
 use mathlib.Core.WellFounded.{WellFounded, InvImage·wf}
@@ -24,7 +24,7 @@ use ghost.Atoms.{Atoms}
 use contract.Monad.{Fun}
 use contract.Running.{givenOf, tables, tablesOf}
 use types.Kit.{Given, Item, Sq, runs, anyQ, atRet, ‵, _⊛_, ⋆, _$_, _∵_, !, qed, by, move, keep, drop, split, join, rewrite, fsplit, fjoin, feqI, suffices, frame, done}
-use types.Run.{look, store, store-raw, init, forget, stop, hop, fld, from, load, lit, unit-lit, of-opd, bin, and-then, no-more, assigns, assigns-last, first, blocks, stays, leaves-loop, loops, again, Below, land, exec, returns, enter, alloc1, alloc0, params1, pass1, pass0, free1, free0}
+use types.Run.{look, store, store-raw, init, forget, stop, hop, fld, from, load, lit, unit-lit, of-opd, bin, addr, and-then, no-more, assigns, assigns-last, first, blocks, stays, leaves-loop, loops, again, Below, land, exec, returns, enter, alloc1, alloc0, params1, pass1, pass0, free1, free0}
 use types.Part.{whole, sub, look-in}
 use sound.WpLaws.{FmC, fmOf, WpFn-mono}
 use denote.RattleType.{owns}
@@ -53,6 +53,8 @@ use Rattle.lent.specs.Loaded.{over}
 use Rattle.lent.proofs.Rows.{offset-fits, one-more, holds, fails, by-test, settles}
 use Rattle.lent.proofs.Asks.{asks}
 use Rattle.lent.proofs.Loaded.{over-none, set-over, least-is, over-short}
+use Rattle.lent.proofs.Element.{elem}
+use Rattle.lent.proofs.Places.{mach, vals, tableVal, cells, cells-twelve, cell-at, record-is}
 use Rattle.record.proofs.Module as T
 use Rattle.record.proofs.Module.Laws as T′
 use Rattle.table.proofs.Table as L
@@ -61,10 +63,6 @@ use Rattle.lent.proofs.shorter as short
 use Rattle.lent.proofs.shorter.Symbol as short-def
 use Rattle.lent.proofs.shorter.Symbol.{name as #shorter}
 use Rattle.lent.proofs.shorter.Met as short-thm
-use Rattle.lent.proofs.record_in as pick
-use Rattle.lent.proofs.record_in.Symbol as pick-def
-use Rattle.lent.proofs.record_in.Symbol.{name as #pick}
-use Rattle.lent.proofs.record_in.Met as pick-thm
 use Rattle.lent.proofs.store.Key.{name as #store}
 use Rattle.lent.proofs.store as f
 use Rattle.lent.proofs.store.Statement as stated
@@ -77,15 +75,6 @@ stayed = (gave-slice (0 ∷ []) tt (plain (λ _. T.the-row)), (stay-dropped _ ye
 
 abbrev Arg : Type 0
 Arg = RefT (List Module) × (Table × Unit {0})
-
-abbrev vals : Module → List Val
-vals = LL.vals T.the-type T′.the-laws
-
-abbrev mach : Module → Val
-mach = LL.val T.the-type T′.the-laws
-
-abbrev tableVal : Table → Val
-tableVal = LL.val L.the-type L′.the-laws
 
 -- the state of the loop
 abbrev X : List Module → List Module → Type 0
@@ -105,12 +94,9 @@ left-less : (n i : ℕ) → i < n → n - suc i < n - i
 left-less n i l = omega (arith, l)
 
 module _ {M : Type 1} (𝓤 : URA M) (H : Heap 𝓤) (A : Atoms 𝓤) (mem : Memory → SProp 𝓤) (run : Routine → Fun 𝓤) where
-  -- the contracts that the proof cites
+  -- the contract that the proof cites
   abbrev Short : Contract 𝓤
   Short = tripleOf 𝓤 H A short.signature (short.spec 𝓤 H A mem run)
-
-  abbrev Pick : Contract 𝓤
-  Pick = tripleOf 𝓤 H A pick.signature (pick.spec 𝓤 H A mem run)
 
 module _ {M : Type 1} (𝓤 : URA M) (H : Heap 𝓤) (A : Atoms 𝓤) (W : Given 𝓤 H A) (mem : Memory → SProp 𝓤) (run : Routine → Fun 𝓤) (κ : Lft) (q : Share) (b o : ℕ) (γ : GName) (ys : List Module) (given : Table) where
   abbrev a : Arg
@@ -141,7 +127,7 @@ module _ {M : Type 1} (𝓤 : URA M) (H : Heap 𝓤) (A : Atoms 𝓤) (W : Given
   typed : (r : Module) → Is T.the-row r (vals r) → Holds (hasTy T′.mir (mach r)) × WT (mach r)
   typed r g = LL.lawful T.the-type T′.the-laws 𝓤 H A W .typed r (vals r) g .0
 
-  module _ (𝓣 : Tables 𝓤 H) (room : Room T.the-row (length ys)) (is : Is L.the-row given (tableVal given ∷ [])) (known-short : Triple 𝓤 (𝓣 .C #shorter) (Short 𝓤 H A mem run)) (known-pick : Triple 𝓤 (𝓣 .C #pick) (Pick 𝓤 H A mem run)) where
+  module _ (𝓣 : Tables 𝓤 H) (room : Room T.the-row (length ys)) (is : Is L.the-row given (tableVal given ∷ [])) (known-short : Triple 𝓤 (𝓣 .C #shorter) (Short 𝓤 H A mem run)) where
     abbrev C : Calls 𝓤 H
     C = 𝓣 .C
 
@@ -151,60 +137,59 @@ module _ {M : Type 1} (𝓤 : URA M) (H : Heap 𝓤) (A : Atoms 𝓤) (W : Given
     fm : FmC 𝓤 H (W .laws) C
     fm = fmOf 𝓤 H (W .laws) 𝓣
 
+    table-typed : Holds (hasTy L′.mir (tableVal given)) × WT (tableVal given)
+    table-typed = LL.lawful L.the-type L′.the-laws 𝓤 H A W .typed given _ is .0
+
     full : length ms ≡ 12
     full = twelve given _ is
 
     fits : (i : ℕ) → i < length ys → i * bytes T.the-row .size < 2 ^ 64
     fits i l = offset-fits (bytes T.the-row .size) (length ys) i l (room .1)
 
-    below : (i : ℕ) → i < length ys → i < 2 ^ 64
-    below i l = lt-trans l (room .0)
-
     next-fits : (i : ℕ) → i < length ys → i + 1 < 2 ^ 64
     next-fits i l = subst (λ (j : ℕ). j < 2 ^ 64) (sym (one-more i)) (lt-of-le-of-lt l (room .0))
 
-    module _ (l₀ l₁ l₂ l₃ l₄ l₅ l₆ l₇ l₈ l₉ n : ℕ) (en : n ≡ cond (ltb (length ys) 12) (length ys) 12) where
+    module _ (l₀ l₁ l₂ l₃ l₄ l₅ l₆ l₇ l₈ l₉ l₁₀ l₁₁ l₁₂ l₁₃ n : ℕ) (en : n ≡ cond (ltb (length ys) 12) (length ys) 12) where
       abbrev E : Env 𝓤 H
-      E = (tyUnit, l₀) ∷ (sliceTy (tyRef (named 0) mut (pointee (T.the-row .written))), l₁) ∷ (L′.mir, l₂) ∷ (tyInt w64, l₃) ∷ (tyInt w64, l₄) ∷ (tyInt w64, l₅) ∷ (tyBool, l₆) ∷ (T′.mir, l₇) ∷ (tyInt w64, l₈) ∷ (tyPtr, l₉) ∷ []
+      E = (tyUnit, l₀) ∷ (sliceTy (tyRef (named 0) mut (pointee (T.the-row .written))), l₁) ∷ (L′.mir, l₂) ∷ (L′.mir, l₃) ∷ (tyInt w64, l₄) ∷ (tyInt w64, l₅) ∷ (tyInt w64, l₆) ∷ (tyBool, l₇) ∷ (tyInt w64, l₈) ∷ (tyPtr, l₉) ∷ (tyPtr, l₁₀) ∷ (T′.mir, l₁₁) ∷ (tyInt w64, l₁₂) ∷ (tyPtr, l₁₃) ∷ []
 
-      -- [obs; the borrow; the token; room for _9, _8, _7 and _6; _5, _4, _3, _2, _1; room for _0]
+      -- [obs; the borrow; the token; room for _13 to _6; _5, _4, _3, _2, _1; room for _0]
       abbrev I : X ys ms → List (Item 𝓤)
       I x = ‵ (fobs γ (codedHoleys T.the-row .code (heres T.the-row (x .1)))) ∷ ‵ (fbor κ (Held T.the-row (length (x .1)) b o γ)) ∷ ‵ (flft κ q)
-          ∷ ‵ (froom tyPtr l₉ 0) ∷ ‵ (fdies tyPtr l₉) ∷ ‵ (froom (tyInt w64) l₈ 0) ∷ ‵ (fdies (tyInt w64) l₈) ∷ ‵ (froom T′.mir l₇ 0) ∷ ‵ (fdies T′.mir l₇) ∷ ‵ (froom tyBool l₆ 0) ∷ ‵ (fdies tyBool l₆)
-          ∷ ‵ (fat fullShare (tyInt w64) l₅ 0 (vint w64 (length ys))) ∷ ‵ (fdies (tyInt w64) l₅) ∷ ‵ (fat fullShare (tyInt w64) l₄ 0 (vint w64 (x .0))) ∷ ‵ (fdies (tyInt w64) l₄)
-          ∷ ‵ (fat fullShare (tyInt w64) l₃ 0 (vint w64 n)) ∷ ‵ (fdies (tyInt w64) l₃) ∷ ‵ (fat fullShare L′.mir l₂ 0 (tableVal given)) ∷ ‵ (fdies L′.mir l₂)
+          ∷ ‵ (froom tyPtr l₁₃ 0) ∷ ‵ (fdies tyPtr l₁₃) ∷ ‵ (froom (tyInt w64) l₁₂ 0) ∷ ‵ (fdies (tyInt w64) l₁₂) ∷ ‵ (froom T′.mir l₁₁ 0) ∷ ‵ (fdies T′.mir l₁₁) ∷ ‵ (froom tyPtr l₁₀ 0) ∷ ‵ (fdies tyPtr l₁₀)
+          ∷ ‵ (froom tyPtr l₉ 0) ∷ ‵ (fdies tyPtr l₉) ∷ ‵ (froom (tyInt w64) l₈ 0) ∷ ‵ (fdies (tyInt w64) l₈) ∷ ‵ (froom tyBool l₇ 0) ∷ ‵ (fdies tyBool l₇) ∷ ‵ (froom (tyInt w64) l₆ 0) ∷ ‵ (fdies (tyInt w64) l₆)
+          ∷ ‵ (fat fullShare (tyInt w64) l₅ 0 (vint w64 (x .0))) ∷ ‵ (fdies (tyInt w64) l₅) ∷ ‵ (fat fullShare (tyInt w64) l₄ 0 (vint w64 n)) ∷ ‵ (fdies (tyInt w64) l₄) ∷ ‵ (fat fullShare L′.mir l₃ 0 (tableVal given)) ∷ ‵ (fdies L′.mir l₃) ∷ ‵ (fat fullShare L′.mir l₂ 0 (tableVal given)) ∷ ‵ (fdies L′.mir l₂)
           ∷ ‵ (fat fullShare (sliceTy (tyRef (named 0) mut (pointee (T.the-row .written)))) l₁ 0 s) ∷ ‵ (fdies (sliceTy (tyRef (named 0) mut (pointee (T.the-row .written)))) l₁) ∷ ‵ (froom tyUnit l₀ 0) ∷ ‵ (fdies tyUnit l₀) ∷ []
 
       -- when the loop is left, the rest of the body runs
       abbrev Left : Out → SProp 𝓤
-      Left = afterBlock 𝓤 H (afterSeq 𝓤 H (Wp 𝓤 H C Λ E mc.t-5 (atReturn 𝓤 H E Post)) (atReturn 𝓤 H E Post))
+      Left = afterBlock 𝓤 H (afterSeq 𝓤 H (Wp 𝓤 H C Λ E mc.t-6 (atReturn 𝓤 H E Post)) (atReturn 𝓤 H E Post))
 
       more : (x : X ys ms) → Holds (ltb (x .0) n) → Sq W (I x) (runs C Λ E mc.turn-1 (anyQ (afterTurn 𝓤 H (Below 𝓤 H A (less ys ms n) I x) Left)))
       unfolding afterTurn
       more x t =
-          assigns ! (bin ! (load ! (from ! (stop !)) (look ! 13 refl)) (load ! (from ! (stop !)) (look ! 15 refl)) tt) (from ! (stop !)) (init ! 9 refl (tt, tt)) $
-          rewrite ! 9 (λ (y : Bool). ‵ (fat fullShare tyBool l₆ 0 (vbool y))) (holds (ltb i n) t) refl $
-          stays ! (load ! (from ! (stop !)) (look ! 9 refl)) $
-          -- the call: _2 and _4 go by value
-          nothing ! $ owned ! usize (Is usize) (uint-makes 𝓤 H A W w64) i _ (refl, below i small) $ fjoin ! $ owned ! L.the-row (Is L.the-row) (LL.makes L.the-type L′.the-plain 𝓤 H A) given _ is $ fjoin ! $ nothing ! $
-          asks ! fm pick.ended (pick.clauses 𝓤 H A mem run) known-pick ((tt, tt, tt, (given, (i, tt)), (tableVal given ∷ [], (vint w64 i ∷ [], tt))), tt) (id⊢ 𝓤 (emp 𝓤)) (‵ ftrue) refl mach (LL.tells T.the-type T′.the-laws) (λ r _. r ≡ getD ms i blank) (λ r ws. refl)
-          (and-then ! (load ! (from ! (stop !)) (look ! 18 refl)) (and-then ! (load ! (from ! (stop !)) (look ! 14 refl)) (no-more !))) (λ m _ em ism.
-          land ! (from ! (stop !)) (init ! 10 refl (typed m ism)) $
-          -- [true; the record; …; obs; the borrow; the token; room for _9; …]
-          assigns ! (bin ! (load ! (from ! (stop !)) (look ! 16 refl)) (lit ! tt) (record { fits = fits i small })) (from ! (stop !)) (init ! 8 refl (tt, record { fits = fits i small })) $
-          assigns ! (bin ! (load ! (from ! (fld ! refl (stop !))) (look-in ! 22 (sub ! 0 refl (whole !)))) (load ! (from ! (stop !)) (look ! 8 refl)) tt) (from ! (stop !)) (init ! 6 refl (tt, tt)) $
-          rewrite ! 6 (λ (p : ℕ). ‵ (fat fullShare tyPtr l₉ 0 (vptr b p))) (sym (place-is (bytes T.the-row .size) o i)) refl $
-          move ! (3 ∷ 4 ∷ 5 ∷ []) $
+          assigns ! (bin ! (load ! (from ! (stop !)) (look ! 19 refl)) (load ! (from ! (stop !)) (look ! 21 refl)) tt) (from ! (stop !)) (init ! 15 refl (tt, tt)) $
+          rewrite ! 15 (λ (y : Bool). ‵ (fat fullShare tyBool l₇ 0 (vbool y))) (holds (ltb i n) t) refl $
+          stays ! (load ! (from ! (stop !)) (look ! 15 refl)) $
+          assigns ! (bin ! (load ! (from ! (stop !)) (look ! 19 refl)) (lit ! tt) (record { fits = fits i small })) (from ! (stop !)) (init ! 13 refl (tt, record { fits = fits i small })) $
+          assigns ! (addr ! (from ! (fld ! refl (stop !)))) (from ! (stop !)) (init ! 11 refl (tt, tt)) $
+          assigns ! (bin ! (load ! (from ! (stop !)) (look ! 11 refl)) (load ! (from ! (stop !)) (look ! 13 refl)) tt) (from ! (stop !)) (init ! 9 refl (tt, tt)) $
+          rewrite ! 9 (λ (p : ℕ). ‵ (fat fullShare tyPtr l₁₀ 0 (vptr l₃ p))) (sym (place-is (bytes T.the-row .size) 8 i)) refl $
+          assigns ! (of-opd ! (load ! (from ! (hop ! (look ! 9 refl) (stop !))) (look-in ! 23 (elem ! (cells ms) i (mach blank) (cells-twelve given _ is) inside (sub ! 1 refl (whole !))))))
+          (from ! (stop !)) (init ! 7 refl (subst (λ (v : Val). Holds (hasTy T′.mir v) × WT v) (sym (cell-at ms i)) (typed m ism))) $
+          rewrite ! 7 (λ (v : Val). ‵ (fat fullShare T′.mir l₁₁ 0 v)) (cell-at ms i) refl $
+          assigns ! (bin ! (load ! (from ! (stop !)) (look ! 19 refl)) (lit ! tt) (record { fits = fits i small })) (from ! (stop !)) (init ! 5 refl (tt, record { fits = fits i small })) $
+          assigns ! (bin ! (load ! (from ! (fld ! refl (stop !))) (look-in ! 27 (sub ! 0 refl (whole !)))) (load ! (from ! (stop !)) (look ! 5 refl)) tt) (from ! (stop !)) (init ! 3 refl (tt, tt)) $
+          rewrite ! 3 (λ (p : ℕ). ‵ (fat fullShare tyPtr l₁₃ 0 (vptr b p))) (sym (place-is (bytes T.the-row .size) o i)) refl $
           opens-slice ! tt T.the-row zs b o $ elem-out ! T.the-row (Is T.the-row) (shows 𝓤 H A T.the-row) vals (LL.tells T.the-type T′.the-laws) fullShare zs i m b o there (λ _.
-          -- [t[i]; what it owns; the others; the open borrow; obs; auth; true; the record; …; _9; …]
-          assigns ! (of-opd ! (load ! (from ! (stop !)) (look ! 13 refl))) (from ! (hop ! (look ! 9 refl) (stop !))) (store-raw ! 0 refl (typed m ism)) $
+          -- [t[i]; what it owns; the others; the open borrow; obs; auth; _13; …]
+          assigns ! (of-opd ! (load ! (from ! (stop !)) (look ! 10 refl))) (from ! (hop ! (look ! 6 refl) (stop !))) (store-raw ! 0 refl (typed m ism)) $
           move ! (1 ∷ []) $ drop ! $ owned ! T.the-row (Is T.the-row) (LL.makes T.the-type T′.the-plain 𝓤 H A) m _ ism $ move ! (1 ∷ 0 ∷ []) $ elem-put ! T.the-row fullShare zs i m (vals m) b o there $
           closes-slice ! tt T.the-row zs (set zs i m) (length-set zs i m) b o $
-          assigns-last ! (bin ! (load ! (from ! (stop !)) (look ! 16 refl)) (lit ! tt) (record { fits = next-fits i small })) (from ! (stop !)) (store ! 16 refl (tt, record { fits = next-fits i small })) $
-          rewrite ! 16 (λ (j : ℕ). ‵ (fat fullShare (tyInt w64) l₄ 0 (vint w64 j))) (one-more i) refl $
-          forget ! 6 refl $ forget ! 8 refl $ forget ! 10 refl $ forget ! 12 refl $
-          keep ! (0 ∷ 1 ∷ 2 ∷ 6 ∷ 7 ∷ 8 ∷ 9 ∷ 10 ∷ 11 ∷ 12 ∷ 13 ∷ 14 ∷ 15 ∷ 16 ∷ 17 ∷ 18 ∷ 19 ∷ 20 ∷ 21 ∷ 22 ∷ 23 ∷ 24 ∷ 25 ∷ []) $
-          again ! (less ys ms n) I x (suc i, set zs i m, ap (λ (k : List Module). set k i m) (x .2) ∙ ap (set (over ys (take i ms)) i) em ∙ set-over ys ms i blank inside, length-set zs i m ∙ x .3) (left-less n i (ltb→lt i n t))))
+          assigns-last ! (bin ! (load ! (from ! (stop !)) (look ! 19 refl)) (lit ! tt) (record { fits = next-fits i small })) (from ! (stop !)) (store ! 19 refl (tt, record { fits = next-fits i small })) $
+          rewrite ! 19 (λ (j : ℕ). ‵ (fat fullShare (tyInt w64) l₅ 0 (vint w64 j))) (one-more i) refl $
+          forget ! 3 refl $ forget ! 5 refl $ forget ! 7 refl $ forget ! 9 refl $ forget ! 11 refl $ forget ! 13 refl $ forget ! 15 refl $
+          again ! (less ys ms n) I x (suc i, set zs i m, ap (λ (k : List Module). set k i m) (x .2) ∙ set-over ys ms i blank (subst (λ (k : ℕ). i < k) (sym full) inside), length-set zs i m ∙ x .3) (left-less n i (ltb→lt i n t)))
         where
           i : ℕ
           i = x .0
@@ -212,54 +197,61 @@ module _ {M : Type 1} (𝓤 : URA M) (H : Heap 𝓤) (A : Atoms 𝓤) (W : Given
           zs : List Module
           zs = x .1
 
+          m : Module
+          m = getD ms i blank
+
           small : i < length ys
           small = lt-of-lt-of-le (ltb→lt i n t) (least-is (length ys) n en .0)
 
           there : i < length zs
           there = subst (λ (k : ℕ). i < k) (sym (x .3)) small
 
-          inside : i < length ms
-          inside = subst (λ (k : ℕ). i < k) (sym full) (lt-of-lt-of-le (ltb→lt i n t) (least-is (length ys) n en .1))
+          inside : i < 12
+          inside = lt-of-lt-of-le (ltb→lt i n t) (least-is (length ys) n en .1)
+
+          ism : Is T.the-row m (vals m)
+          ism = record-is given _ i is inside
 
       ends : (x : X ys ms) → Holds (not (ltb (x .0) n)) → Sq W (I x) (runs C Λ E mc.turn-1 (anyQ (afterTurn 𝓤 H (Below 𝓤 H A (less ys ms n) I x) Left)))
       unfolding afterTurn
       ends x t =
-          assigns ! (bin ! (load ! (from ! (stop !)) (look ! 13 refl)) (load ! (from ! (stop !)) (look ! 15 refl)) tt) (from ! (stop !)) (init ! 9 refl (tt, tt)) $
-          rewrite ! 9 (λ (y : Bool). ‵ (fat fullShare tyBool l₆ 0 (vbool y))) (fails (ltb (x .0) n) t) refl $
-          leaves-loop ! (load ! (from ! (stop !)) (look ! 9 refl)) $ exec ! C Λ E mc.t-5 (atRet E Post) $
-          assigns ! (of-opd ! (unit-lit !)) (from ! (stop !)) (init ! 21 refl (tt, tt)) $
-          returns ! (look ! 21 refl) $ forget ! 9 refl $ forget ! 11 refl $ forget ! 13 refl $ forget ! 15 refl $ forget ! 17 refl $ forget ! 19 refl $ forget ! 21 refl $
-          move ! (21 ∷ 22 ∷ []) $ free1 ! $ move ! (19 ∷ 20 ∷ []) $ free1 ! $ move ! (17 ∷ 18 ∷ []) $ free1 ! $ move ! (15 ∷ 16 ∷ []) $ free1 ! $ move ! (13 ∷ 14 ∷ []) $ free1 ! $ move ! (11 ∷ 12 ∷ []) $ free1 ! $ move ! (9 ∷ 10 ∷ []) $ free1 ! $ move ! (7 ∷ 8 ∷ []) $ free1 ! $ move ! (5 ∷ 6 ∷ []) $ free1 ! $ move ! (3 ∷ 4 ∷ []) $ free1 ! $ free0 ! $
+          assigns ! (bin ! (load ! (from ! (stop !)) (look ! 19 refl)) (load ! (from ! (stop !)) (look ! 21 refl)) tt) (from ! (stop !)) (init ! 15 refl (tt, tt)) $
+          rewrite ! 15 (λ (y : Bool). ‵ (fat fullShare tyBool l₇ 0 (vbool y))) (fails (ltb (x .0) n) t) refl $
+          leaves-loop ! (load ! (from ! (stop !)) (look ! 15 refl)) $ exec ! C Λ E mc.t-6 (atRet E Post) $
+          assigns ! (of-opd ! (unit-lit !)) (from ! (stop !)) (init ! 29 refl (tt, tt)) $
+          returns ! (look ! 29 refl) $ forget ! 15 refl $ forget ! 19 refl $ forget ! 21 refl $ forget ! 23 refl $ forget ! 25 refl $ forget ! 27 refl $ forget ! 29 refl $
+          move ! (29 ∷ 30 ∷ []) $ free1 ! $ move ! (27 ∷ 28 ∷ []) $ free1 ! $ move ! (25 ∷ 26 ∷ []) $ free1 ! $ move ! (23 ∷ 24 ∷ []) $ free1 ! $ move ! (21 ∷ 22 ∷ []) $ free1 ! $ move ! (19 ∷ 20 ∷ []) $ free1 ! $ move ! (17 ∷ 18 ∷ []) $ free1 ! $ move ! (15 ∷ 16 ∷ []) $ free1 ! $ move ! (13 ∷ 14 ∷ []) $ free1 ! $ move ! (11 ∷ 12 ∷ []) $ free1 ! $ move ! (9 ∷ 10 ∷ []) $ free1 ! $ move ! (7 ∷ 8 ∷ []) $ free1 ! $ move ! (5 ∷ 6 ∷ []) $ free1 ! $ move ! (3 ∷ 4 ∷ []) $ free1 ! $ free0 ! $
           settles ! T.the-row κ γ (x .1) $ keep ! (2 ∷ 0 ∷ []) $ by ! (exits (x .1) (x .2 ∙ over-short ys ms n (x .0) en full (nltb→le (x .0) n t)) (x .3))
 
       turn : (x : X ys ms) → Sq W (I x) (runs C Λ E mc.turn-1 (anyQ (afterTurn 𝓤 H (Below 𝓤 H A (less ys ms n) I x) Left)))
       turn x = by-test (ltb (x .0) n) (more x) (ends x)
 
       -- the loop, and what follows it
-      looping : (x : X ys ms) → Sq W (I x) (runs C Λ E mc.t-4 (atRet E Post))
+      looping : (x : X ys ms) → Sq W (I x) (runs C Λ E mc.t-5 (atRet E Post))
       looping x = first ! $ blocks ! $ loops ! 𝓣 (less ys ms n) (less-wf ys ms n) I turn x
 
     walk : ent 𝓤 (onEntry 𝓤 H A f.signature (κ, tt) (q, tt) a at) (WpFn 𝓤 H C Λ code.function (s ∷ tableVal given ∷ []) Post)
     walk =
         qed W ((‵ (flft κ q) ⊛ ‵ ftrue) ∷ ‵ (owns (MutSlice (named 0) κ T.the-row ∷ L.the-row ∷ []) a at) ∷ []) ∵ enter ! C Λ code.function (s ∷ tableVal given ∷ []) _ $
-        alloc1 ! (λ l₀. alloc1 ! (λ l₁. alloc1 ! (λ l₂. alloc1 ! (λ l₃. alloc1 ! (λ l₄. alloc1 ! (λ l₅. alloc1 ! (λ l₆. alloc1 ! (λ l₇. alloc1 ! (λ l₈. alloc1 ! (λ l₉. alloc0 ! $ params1 ! $
-        pass1 ! (init ! 16 refl (tt, (tt, (record { fits = room .0 }, tt)))) $ pass1 ! (init ! 14 refl (LL.lawful L.the-type L′.the-laws 𝓤 H A W .typed given _ is .0)) $ pass0 ! $
-        assigns ! (of-opd ! (load ! (from ! (fld ! refl (stop !))) (look-in ! 16 (sub ! 1 refl (whole !))))) (from ! (stop !)) (init ! 8 refl (tt, record { fits = room .0 })) $
+        alloc1 ! (λ l₀. alloc1 ! (λ l₁. alloc1 ! (λ l₂. alloc1 ! (λ l₃. alloc1 ! (λ l₄. alloc1 ! (λ l₅. alloc1 ! (λ l₆. alloc1 ! (λ l₇. alloc1 ! (λ l₈. alloc1 ! (λ l₉. alloc1 ! (λ l₁₀. alloc1 ! (λ l₁₁. alloc1 ! (λ l₁₂. alloc1 ! (λ l₁₃. alloc0 ! $ params1 ! $
+        pass1 ! (init ! 24 refl (tt, (tt, (record { fits = room .0 }, tt)))) $ pass1 ! (init ! 22 refl table-typed) $ pass0 ! $
+        assigns ! (of-opd ! (load ! (from ! (stop !)) (look ! 22 refl))) (from ! (stop !)) (init ! 20 refl table-typed) $
+        assigns ! (of-opd ! (load ! (from ! (fld ! refl (stop !))) (look-in ! 24 (sub ! 1 refl (whole !))))) (from ! (stop !)) (init ! 14 refl (tt, record { fits = room .0 })) $
         nothing ! $ owned ! usize (Is usize) (uint-makes 𝓤 H A W w64) (length ys) _ (refl, room .0) $ fjoin ! $ nothing ! $
         asks ! fm short.ended (short.clauses 𝓤 H A mem run) known-short ((tt, tt, tt, (length ys, tt), (vint w64 (length ys) ∷ [], tt)), tt) (id⊢ 𝓤 (emp 𝓤)) (‵ ftrue) refl (vint w64) (uint-tells w64) (λ r _. r ≡ cond (ltb (length ys) 12) (length ys) 12) (λ r ws. refl)
-        (and-then ! (load ! (from ! (stop !)) (look ! 9 refl)) (no-more !)) (λ n _ en isn.
-        land ! (from ! (stop !)) (init ! 15 refl (tt, record { fits = isn .1 })) $
-        assigns ! (of-opd ! (lit ! tt)) (from ! (stop !)) (init ! 13 refl (tt, record { fits = lt-of-le-of-lt zero-le (room .0) })) $
-        move ! (24 ∷ []) $ fsplit ! $ fsplit ! $ drop ! $ fsplit ! $ move ! (26 ∷ []) $ split ! $ move ! (2 ∷ 3 ∷ 0 ∷ []) $
-        -- [obs; the borrow; the token; true; the table's; …three; _9; …]
-        keep ! (0 ∷ 1 ∷ 2 ∷ 8 ∷ 9 ∷ 10 ∷ 11 ∷ 12 ∷ 13 ∷ 14 ∷ 15 ∷ 16 ∷ 17 ∷ 18 ∷ 19 ∷ 20 ∷ 21 ∷ 22 ∷ 23 ∷ 24 ∷ 25 ∷ 26 ∷ 27 ∷ []) $
-        looping l₀ l₁ l₂ l₃ l₄ l₅ l₆ l₇ l₈ l₉ n en (0, ys, sym (over-none ys), refl))))))))))))
+        (and-then ! (load ! (from ! (stop !)) (look ! 15 refl)) (no-more !)) (λ n _ en isn.
+        land ! (from ! (stop !)) (init ! 21 refl (tt, record { fits = isn .1 })) $
+        assigns ! (of-opd ! (lit ! tt)) (from ! (stop !)) (init ! 19 refl (tt, record { fits = lt-of-le-of-lt zero-le (room .0) })) $ forget ! 17 refl $
+        move ! (32 ∷ []) $ fsplit ! $ fsplit ! $ drop ! $ fsplit ! $ move ! (34 ∷ []) $ split ! $ move ! (2 ∷ 3 ∷ 0 ∷ []) $
+        -- [obs; the borrow; the token; true; the table's; …three; _13; …]
+        keep ! (0 ∷ 1 ∷ 2 ∷ 8 ∷ 9 ∷ 10 ∷ 11 ∷ 12 ∷ 13 ∷ 14 ∷ 15 ∷ 16 ∷ 17 ∷ 18 ∷ 19 ∷ 20 ∷ 21 ∷ 22 ∷ 23 ∷ 24 ∷ 25 ∷ 26 ∷ 27 ∷ 28 ∷ 29 ∷ 30 ∷ 31 ∷ 32 ∷ 33 ∷ 34 ∷ 35 ∷ []) $
+        looping l₀ l₁ l₂ l₃ l₄ l₅ l₆ l₇ l₈ l₉ l₁₀ l₁₁ l₁₂ l₁₃ n en (0, ys, sym (over-none ys), refl))))))))))))))))
 
 module _ {M : Type 1} (𝓤 : URA M) (H : Heap 𝓤) (A : Atoms 𝓤) (W : Given 𝓤 H A) (mem : Memory → SProp 𝓤) (run : Routine → Fun 𝓤) (𝓣 : Tables 𝓤 H)
-    (known-short : Triple 𝓤 (𝓣 .C #shorter) (Short 𝓤 H A mem run)) (known-pick : Triple 𝓤 (𝓣 .C #pick) (Pick 𝓤 H A mem run)) where
+    (known-short : Triple 𝓤 (𝓣 .C #shorter) (Short 𝓤 H A mem run)) where
   store-walks : Walks 𝓤 H A f.ended stayed (WpFn 𝓤 H (𝓣 .C) (𝓣 .Λ) code.function) (f.clauses 𝓤 H A mem run)
   store-walks = walked 𝓤 H A f.ended stayed (f.clauses 𝓤 H A mem run) (WpFn 𝓤 H (𝓣 .C) (𝓣 .Λ) code.function) (λ κs. (slice-vals, (LL.vals L.the-type L′.the-laws, tt))) (λ κs. (mut-slice-tells (named 0) (κs .0) T.the-row, (LL.tells L.the-type L′.the-laws, tt)))
-      (λ κs qs bounds a g are. via 𝓤 _ (fst∗ 𝓤 _ (emp 𝓤)) (walk 𝓤 H A W mem run (κs .0) (qs .0) (a .0 .ptr .0) (a .0 .ptr .1) (a .0 .name) (a .0 .now) (a .1 .0) 𝓣 (are .0 .0 .1) (are .1 .0) known-short known-pick))
+      (λ κs qs bounds a g are. via 𝓤 _ (fst∗ 𝓤 _ (emp 𝓤)) (walk 𝓤 H A W mem run (κs .0) (qs .0) (a .0 .ptr .0) (a .0 .ptr .1) (a .0 .name) (a .0 .now) (a .1 .0) 𝓣 (are .0 .0 .1) (are .1 .0) known-short))
 
   store-meets : Meets 𝓤 H A f.signature (WpFn 𝓤 H (𝓣 .C) (𝓣 .Λ) code.function) (f.spec 𝓤 H A mem run)
   store-meets = walk-meets 𝓤 H A f.ended stayed W (goes-gave-slice 𝓤 H A W 1 0 tt (plain (λ _. T.the-row)), (goes-dropped 𝓤 H A W 1 (plain (λ _. L.the-row)) yes (λ κs x f. refl), tt)) (f.clauses 𝓤 H A mem run) (WpFn 𝓤 H (𝓣 .C) (𝓣 .Λ) code.function) (WpFn-mono 𝓤 H (W .laws) 𝓣 code.function) store-walks
@@ -270,5 +262,4 @@ store-spec 𝓤 H 𝓜 𝓖 𝓡 =
     entered 𝓤 H (tripleOf 𝓤 H (𝓖 .A) f.signature (f.spec 𝓤 H (𝓖 .A) (𝓜 .mem) (𝓡 .run)))
     (tables 𝓤 H 𝓜 𝓡 code.env .C) (tables 𝓤 H 𝓜 𝓡 code.env .Λ) #store code.function (code.unfolded 𝓤 H 𝓜 𝓡)
     (store-meets 𝓤 H (𝓖 .A) (givenOf 𝓤 H 𝓜 𝓖) (𝓜 .mem) (𝓡 .run) (tablesOf 𝓤 H 𝓜 (tables 𝓤 H 𝓜 𝓡 code.env))
-    (cited 𝓤 H (Short 𝓤 H (𝓖 .A) (𝓜 .mem) (𝓡 .run)) 𝓜 𝓡 code.env #shorter short-def.routine code.calls-lent·shorter (short-thm.met 𝓤 H 𝓜 𝓖 𝓡))
-    (cited 𝓤 H (Pick 𝓤 H (𝓖 .A) (𝓜 .mem) (𝓡 .run)) 𝓜 𝓡 code.env #pick pick-def.routine code.calls-lent·record-in (pick-thm.met 𝓤 H 𝓜 𝓖 𝓡)))
+    (cited 𝓤 H (Short 𝓤 H (𝓖 .A) (𝓜 .mem) (𝓡 .run)) 𝓜 𝓡 code.env #shorter short-def.routine code.calls-lent·shorter (short-thm.met 𝓤 H 𝓜 𝓖 𝓡)))
