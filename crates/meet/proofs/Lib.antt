@@ -7,3 +7,4 @@ pub mod Readings
 pub mod Off
 pub mod Vectors
 pub mod Asked
+pub mod Ones
