@@ -108,10 +108,13 @@ typedef struct hanuzak_event {
     size_t   lenid;
 } hanuzak_event;
 
-/* open 0 is waiting, whatever the count; any other value is open with count characters, which stand at the front of the store. */
+/*
+ * open 0 is waiting, whatever the count; any other value is open with count characters, which stand at the front of the store.
+ * open is as wide as count, so that a receiver that goes from call to call is loaded as it was stored.
+ */
 typedef struct hanuzak_receiver {
-    uint8_t open;
-    size_t  count;
+    size_t open;
+    size_t count;
 } hanuzak_receiver;
 
 typedef struct hanuzak_stepped {
@@ -231,7 +234,7 @@ HANUZAK_FIELD(hanuzak_event, cid2, 11, 1);
 HANUZAK_FIELD(hanuzak_event, lenid, 16, 8);
 
 HANUZAK_SIZE(hanuzak_receiver, 16);
-HANUZAK_FIELD(hanuzak_receiver, open, 0, 1);
+HANUZAK_FIELD(hanuzak_receiver, open, 0, 8);
 HANUZAK_FIELD(hanuzak_receiver, count, 8, 8);
 
 HANUZAK_SIZE(hanuzak_stepped, 40);

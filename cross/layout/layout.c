@@ -363,7 +363,7 @@ static void same_event(hanuzak_event event, uint32_t kind, uint32_t number)
     SAME(event.lenid, 0);
 }
 
-static void same_receiver(hanuzak_receiver receiver, uint8_t open, size_t count)
+static void same_receiver(hanuzak_receiver receiver, size_t open, size_t count)
 {
     SAME(receiver.open, open);
     SAME(receiver.count, count);
@@ -397,7 +397,7 @@ static void stepped(void)
     stepped = hanuzak_step(receiver, store, sizeof store, '\r');
     same_receiver(stepped.next, 0, 0);
     same_header(stepped.event);
-    receiver.open = 0x80;
+    receiver.open = 0x100;
     receiver.count = 4109;
     stepped = hanuzak_step(receiver, store, sizeof store, 'x');
     same_receiver(stepped.next, 1, 4110);
@@ -487,11 +487,29 @@ static void listed(void)
     SAME(listed.taken, 40);
     same_text(listed.written, "at=1006\nver=11\nadr=22\ncid1=33\ncid2=44\ninfo=5AC30F\nat=1030\nrefused=3\n");
     same_text(hanuzak_list_close(listed.next, out, HANUZAK_CLOSING), "frames=70001\nrefusals=301\n");
-    listing.receiver.open = 1;
+    listing.receiver.open = 0x100;
     listing.receiver.count = 4111;
     listed = hanuzak_list(listing, store, sizeof store, piece, 40, out, sizeof out);
     same_receiver(listed.next.receiver, 1, 4111);
     SAME(listed.written.number, 35);
+}
+
+/* ---- any bit of open is open, for each call that takes a receiver */
+
+static void opened(void)
+{
+    uint8_t         store[HANUZAK_STORE];
+    const uint8_t   piece[1] = { 'x' };
+    hanuzak_listing listing = hanuzak_listing_new();
+
+    memset(store, '.', sizeof store);
+    for (size_t bit = 0; bit < 64; bit++) {
+        listing.receiver.open = (size_t)1 << bit;
+        listing.receiver.count = bit;
+        same_receiver(hanuzak_step(listing.receiver, store, sizeof store, 'x').next, 1, bit + 1);
+        same_receiver(hanuzak_run(listing.receiver, store, sizeof store, piece, 1).next, 1, bit + 1);
+        same_receiver(hanuzak_list(listing, store, sizeof store, piece, 1, out, sizeof out).next.receiver, 1, bit + 1);
+    }
 }
 
 /* ---- the stand-in and the reply reader */
@@ -709,6 +727,7 @@ int main(void)
     stepped();
     ran();
     listed();
+    opened();
     maker_answered();
     records_read();
     group_read();

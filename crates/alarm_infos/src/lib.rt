@@ -26,7 +26,7 @@ pub struct AlarmsTaken {
 }
 
 // A 44H record of zeros.
-pub fn zero_alarm() -> Alarm
+fn zero_alarm() -> Alarm
     ensures { λ r. ⌜ r ≡ noAlarm ⌝ }
 {
     let cells = [0u8; 16];

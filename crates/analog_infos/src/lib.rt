@@ -26,7 +26,7 @@ pub struct AnalogsTaken {
 }
 
 // A 42H record of zeros.
-pub fn zero_analog() -> Analog
+fn zero_analog() -> Analog
     ensures { λ r. ⌜ r ≡ noAnalog ⌝ }
 {
     let cells = [0i16; 16];

@@ -5,7 +5,7 @@ use Prim.Native.Nat.{ℕ, zero, suc, _+_, _≤_, _<_}
 use native.Mathlib.Nat.{add-assoc, zero-add}
 use native.Mathlib.Omega.{arith}
 use lib.ListN.{length, take, drop, set, length-append}
-use lib.Seq.{sets-eq, paste, take-length, length-take-le, take-at, drop-append-add, drop-drop, length-paste, paste-zero, take-set-le, append-snoc}
+use lib.Seq.{sets-eq, paste, take-length, length-take-le, take-at, drop-append-add, drop-drop, paste-zero, take-set-le, append-snoc}
 use Rattle.buffer.specs.Put.{puts, Put, Room}
 
 -- one byte stored
@@ -17,10 +17,6 @@ puts-one out at b h = sets-eq (b ∷ []) out at (omega arith)
 pub puts-paste : (out : List ℕ) (at : ℕ) (s : List ℕ) → paste out at s (length s) ≡ puts out at s
 unfolding puts
 puts-paste out at s = ap (λ (t : List ℕ). take at out ++ t ++ drop (at + length s) out) (take-length s)
-
--- the length stays
-pub puts-length : (out : List ℕ) (at : ℕ) (s : List ℕ) → at + length s ≤ length out → length (puts out at s) ≡ length out
-puts-length out at s h = ap length (sym (puts-paste out at s)) ∙ length-paste out at s (length s) h (omega arith)
 
 -- no text
 pub puts-nil : (out : List ℕ) (at : ℕ) → puts out at [] ≡ out

@@ -2,7 +2,7 @@
 use mathlib.Core.Path.{_≡_, refl, sym, ap, _∙_}
 use mathlib.Core.Bool.{Bool, true, false, cond, _&&_}
 use mathlib.Core.List.{List, [], _∷_, _++_, append-nil}
-use Prim.Native.Nat.{ℕ, zero, suc, _+_, _≤_, _<_}
+use Prim.Native.Nat.{ℕ, zero, suc, _+_, _-_, _≤_, _<_}
 use native.Mathlib.Numerals.{add-one}
 use native.Mathlib.Nat.{add-zero}
 use native.Mathlib.Omega.{arith}
@@ -15,7 +15,7 @@ use mathlib.Core.Logic.{⊎-elim}
 use Rattle.record.specs.declared.Module.{Module}
 use Rattle.table.specs.declared.Table.{Table}
 use Rattle.table.specs.Table.{members, isOn, oneIf}
-use Rattle.table.proofs.Members.{nil, left-member}
+use Rattle.table.proofs.Members.{nil, left-member, few-members}
 use Rattle.changes.specs.Changes.{fitted, dealt, TableIs}
 
 module _ {A : Type 0} (f : A → Module → Module) where
@@ -102,8 +102,10 @@ module _ {A : Type 0} (f : A → Module → Module) (values : List A) (d : A) (t
   unfolding dealt members
   dealt-end e =
       let none : drop i (members t) ≡ [] = let past : length (members t) ≤ i = omega arith in drop-of-length-le (members t) past in
+      let past : i + (t .count - i) ≡ t .count = omega (arith, few-members t) in
+      let beyond : (l : List Module) → drop (t .count - i) (drop i l) ≡ drop (t .count) l = λ (l : List Module). drop-drop (t .count - i) i l ∙ ap (λ (n : ℕ). drop n l) past in
       record {
-        count = inv .0;
+        kept = (inv .0, sym (beyond (next .modules)) ∙ ap (drop (t .count - i)) (inv .2) ∙ beyond (t .modules));
         members-are =
             ap (λ (n : ℕ). take n (next .modules)) (inv .0)
             ∙ take-as-long (t .count) (next .modules) (t .modules) (inv .1)

@@ -5,7 +5,7 @@ use mathlib.Core.List.{List}
 use Prim.Native.Nat.{ℕ, _≤_, _<_}
 use native.Mathlib.Omega.{arith}
 use lib.ListN.{length, set}
-use lib.Seq.{take-set-lt, set-out}
+use lib.Seq.{take-set-lt, drop-set-lt, set-out}
 use borrow.Author.Tests.{ltb-true, ltb-false}
 use Rattle.record.specs.declared.Module.{Module}
 use Rattle.table.specs.declared.Table.{Table}
@@ -24,7 +24,7 @@ module _ (t : Table) (adr : ℕ) (m : Module) where
   there i e h =
       let l = in-range adr (members t) i e h in
       record {
-        count = refl;
+        kept = (refl, drop-set-lt (t .count) (t .modules) i m (omega (arith, few-members t)));
         members-are = take-set-lt (t .count) (t .modules) i m (omega (arith, few-members t)) ∙ ap (λ (k : ℕ). set (members t) k m) e;
       }
 
@@ -32,7 +32,7 @@ module _ (t : Table) (adr : ℕ) (m : Module) where
   unfolding hasMember
   not-there h =
       record {
-        count = refl;
+        kept = (refl, refl);
         members-are = sym (set-out (members t) (placeOf adr (members t)) m (ltb-false (placeOf adr (members t)) (length (members t)) h));
       }
 

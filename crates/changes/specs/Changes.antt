@@ -3,7 +3,7 @@ use mathlib.Core.Path.{_≡_}
 use mathlib.Core.Bool.{Bool, cond, _&&_}
 use mathlib.Core.List.{List, [], _∷_}
 use Prim.Native.Nat.{ℕ}
-use lib.ListN.{set}
+use lib.ListN.{set, drop}
 use Rattle.record.specs.declared.Module.{Module}
 use Rattle.record.specs.declared.Analog.{Analog}
 use Rattle.record.specs.declared.Alarm.{Alarm}
@@ -48,7 +48,11 @@ dealt f [] values = []
 dealt f (m ∷ ms) [] = m ∷ ms
 dealt f (m ∷ ms) (a ∷ values) = cond (isOn m) (f a m ∷ dealt f ms values) (m ∷ dealt f ms (a ∷ values))
 
--- a table by value with these members, and as many of them as before
+-- as many members as before, and what stands in the places past them as it was
+abbrev pub Kept : Table → Table → Type 0
+Kept before t = (t .count ≡ before .count) × (drop (before .count) (t .modules) ≡ drop (before .count) (before .modules))
+
+-- a table by value with these members and no other change
 pub record TableIs (before : Table) (ms : List Module) (t : Table) : Type 0 where
-  pub count : t .count ≡ before .count
+  pub kept : Kept before t
   pub members-are : members t ≡ ms

@@ -4,7 +4,9 @@ use mathlib.Core.Bool.{cond}
 use mathlib.Core.List.{List}
 use Prim.Native.Nat.{ℕ}
 use lib.Dec.{ltb}
+use Rattle.table.specs.declared.Table.{Table}
 use Rattle.table.specs.Table.{members}
+use Rattle.changes.specs.Changes.{Kept}
 use Rattle.standin.specs.Answer.{Left}
 use Rattle.reply.specs.Read as Read
 use Rattle.flat.specs.Flat.{answeredOf, replyOf}
@@ -17,8 +19,8 @@ pub record Serves (left : Left) (count : ℕ) (r : Served) (out′ : List ℕ) :
   pub off : r .off ≡ cond (ltb (left .off) 12) (left .off) count
   pub out : out′ ≡ left .out
 
--- the reply reader: the table keeps its count
-pub record ReadsFlat (left : Read.Left) (count : ℕ) (r : ReadReply) : Type 0 where
+-- the reply reader: besides the members nothing of the table changes
+pub record ReadsFlat (left : Read.Left) (t : Table) (r : ReadReply) : Type 0 where
   pub told : r .reply ≡ replyOf (left .outcome) (left .maker)
   pub members-are : members (r .table) ≡ left .modules
-  pub count-is : r .table .count ≡ count
+  pub kept : Kept t (r .table)

@@ -67,7 +67,7 @@ pub struct ReadReply {
 }
 
 pub fn read_flat(given: Table, question: Question, stretch: &[u8]) -> ReadReply
-    ensures { λ r. ⌜ ReadsFlat (readReply (keeps given) (members given) question (now (stretch .entry))) (given .count) r ⌝ }
+    ensures { λ r. ⌜ ReadsFlat (readReply (keeps given) (members given) question (now (stretch .entry))) given r ⌝ }
 {
     let done = reply::read(given, question, stretch);
     let outcome = done.outcome;

@@ -39,7 +39,7 @@ pub struct FlatEvent {
 // A receiver: open 0 is waiting, whatever the count; any other is open.
 #[repr(C)]
 pub struct FlatReceiver {
-    pub open: u8,
+    pub open: usize,
     pub count: usize,
 }
 

@@ -8,7 +8,7 @@ use lib.ListN.{length, drop, length-append, List·getD-append}
 use lib.Seq.{append-snoc}
 use Rattle.buffer.proofs.Lists.{cancel, levi, Levi}
 use Rattle.hex.specs.Hex.{hexes, word, byteAt, wordAt, unhexes, Bytes}
-use Rattle.hex.proofs.Laws.{Hexy, hexy-cut, digit-range, length-hexes, unhexes-hexes, word-hexes}
+use Rattle.hex.proofs.Laws.{Hexy, hexy-cut, said-range, length-hexes, unhexes-hexes, word-hexes}
 use Rattle.frame.specs.declared.Header.{Header}
 use Rattle.frame.specs.Frame.{lengthOf, sum, chksum, packed, seal, chars, Encodes, Whole}
 use Rattle.frame.specs.Judge.{header, lenid}
@@ -67,7 +67,7 @@ unfolding sum
 sum-range [] h = (omega arith, omega arith)
 sum-range (x ∷ c) h =
     let r = sum-range c (h .1) in
-    let q = digit-range x (h .0) in
+    let q = said-range x (h .0) in
     (omega arith, omega arith)
 
 shift : (m s : ℕ) → s % 65536 ≡ (m + s) % 65536 → 0 < m → 65536 ≤ m
@@ -95,8 +95,8 @@ pub whole-one-place : (x : List ℕ) (a a′ : ℕ) (y : List ℕ) → Whole (x 
 whole-one-place x a a′ y w w′ =
     let s = whole-seal (x ++ a ∷ y) w in
     let s′ = whole-seal (x ++ a′ ∷ y) w′ in
-    let r = digit-range a (hexy-cut x (a ∷ y) (whole-good (x ++ a ∷ y) w .hexy) .1 .0) in
-    let r′ = digit-range a′ (hexy-cut x (a′ ∷ y) (whole-good (x ++ a′ ∷ y) w′ .hexy) .1 .0) in
+    let r = said-range a (hexy-cut x (a ∷ y) (whole-good (x ++ a ∷ y) w .hexy) .1 .0) in
+    let r′ = said-range a′ (hexy-cut x (a′ ∷ y) (whole-good (x ++ a′ ∷ y) w′ .hexy) .1 .0) in
     one-place x a a′ y (s .0) (s′ .0) (omega arith) (omega arith) (s .1) (s′ .1)
 
 -- LENID stands in the first twelve characters, so no whole encoding begins another

@@ -36,14 +36,14 @@ pub enum Judged {
 }
 
 // LCHKSUM of a LENID.
-pub fn lchksum(lenid: u16) -> u16
+fn lchksum(lenid: u16) -> u16
     ensures { λ r. ⌜ r ≡ lchksum lenid ⌝ }
 {
     (16 - (lenid / 256 + lenid / 16 % 16 + lenid % 16) % 16) % 16
 }
 
 // LENGTH of a LENID; of a larger number, that of its low 12 bits.
-pub fn length_of(lenid: u16) -> u16
+fn length_of(lenid: u16) -> u16
     ensures { λ r. ⌜ r ≡ lengthOf (lenid % 4096) ⌝ }
 {
     let low = lenid % 4096;
@@ -51,7 +51,7 @@ pub fn length_of(lenid: u16) -> u16
 }
 
 // CHKSUM of characters: their wrapping sum, taken from zero. No early exit, so that the loop is compiled to vector code.
-pub fn chksum(characters: &[u8]) -> u16
+fn chksum(characters: &[u8]) -> u16
     ensures { λ r. ⌜ r ≡ chksum (now (characters .entry)) ⌝ }
 {
     let mut total: u16 = 0;

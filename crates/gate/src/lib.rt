@@ -24,7 +24,7 @@ pub enum Entry {
 }
 
 // Whether a byte is a return code of the paper.
-pub fn is_code(code: u8) -> bool
+fn is_code(code: u8) -> bool
     ensures { λ r. ⌜ r ≡ isCode code ⌝ }
 {
     match code {
@@ -36,7 +36,7 @@ pub fn is_code(code: u8) -> bool
 }
 
 // Whether a question can be asked: a served command, with ADR as its Command or FFH at the master with 42H or 44H.
-pub fn is_asked(question: Question) -> bool
+fn is_asked(question: Question) -> bool
     ensures { λ r. ⌜ r ≡ asks question ⌝ }
 {
     let terms = command::terms_of(command::kind_of(question.cid2));

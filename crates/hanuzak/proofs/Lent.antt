@@ -79,7 +79,7 @@ module _ (ms : List Module) (t : Table) (full : length (t .modules) ≡ 12) (cou
       ap (over ms) (here ∙ e ∙ there) ∙ over-back ms row
 
 pub lent-reading : (ms : List Module) (question : Question) (stretch : List ℕ) (r : ReadReply) (table : List Module) → length (r .table .modules) ≡ 12
-    → ReadsFlat (readReply (keeps (loaded ms)) (members (loaded ms)) question stretch) (loaded ms .count) r → table ≡ over ms (r .table .modules) → ReplyLeaves (reading ms question stretch) (r .reply) table
+    → ReadsFlat (readReply (keeps (loaded ms)) (members (loaded ms)) question stretch) (loaded ms) r → table ≡ over ms (r .table .modules) → ReplyLeaves (reading ms question stretch) (r .reply) table
 unfolding reading loaded readReply
 lent-reading ms question stretch r table full s e = pick (leb (length ms) 12) refl
   where
@@ -93,9 +93,9 @@ lent-reading ms question stretch r table full s e = pick (leb (length ms) 12) re
     pick true t =
         let few : length ms ≤ 12 = leb→le (length ms) 12 (subst T (sym t) tt) in
         let same : left (keeps (loaded ms)) (members (loaded ms)) ≡ left (rule ms) ms = ap (λ (b : Bool). left b (members (loaded ms))) (few-keep ms few) ∙ ap (left (rule ms)) (loaded-members ms few) in
-        both (left (rule ms) ms) (s .told ∙ ap (λ (l : Left). replyOf (l .outcome) (l .maker)) same) (e ∙ few-back ms (r .table) full (s .count-is) few ∙ s .members-are ∙ ap (λ (l : Left). l .modules) same)
+        both (left (rule ms) ms) (s .told ∙ ap (λ (l : Left). replyOf (l .outcome) (l .maker)) same) (e ∙ few-back ms (r .table) full (s .kept .0) few ∙ s .members-are ∙ ap (λ (l : Left). l .modules) same)
     pick false t =
         let many : 12 < length ms = nleb→lt (length ms) 12 (subst (λ (b : Bool). T (not b)) (sym t) tt) in
         let was : left (keeps (loaded ms)) (members (loaded ms)) ≡ left false (members (loaded ms)) = ap (λ (b : Bool). left b (members (loaded ms))) (many-break ms many .0) in
         let is : left false ms ≡ left (rule ms) ms = ap (λ (b : Bool). left b ms) (sym (many-break ms many .1)) in
-        both (left false ms) (s .told ∙ ap (λ (l : Left). replyOf (l .outcome) (l .maker)) was) (e ∙ many-back ms (r .table) full (s .count-is) many (s .members-are ∙ ap (λ (l : Left). l .modules) was)) ∙ ap toldOf is
+        both (left false ms) (s .told ∙ ap (λ (l : Left). replyOf (l .outcome) (l .maker)) was) (e ∙ many-back ms (r .table) full (s .kept .0) many (s .members-are ∙ ap (λ (l : Left). l .modules) was)) ∙ ap toldOf is

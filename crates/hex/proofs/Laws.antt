@@ -13,9 +13,21 @@ use Rattle.hex.specs.Hex.{within, isHex, digitOf, charOf, allHex, pairOf
 
 -- ---- one character
 
+-- the digit that a character says, 0 to 15, or 16 where it says none
+unfoldable pub said : ℕ → ℕ
+said c = cond (within "0" "9" c) (c - 48) (cond (within "A" "F" c) (c - 65 + 10) 16)
+
 pub digit-char : (d : ℕ) → d < 16 → digitOf (charOf d) ≡ d
 unfolding digitOf charOf
 digit-char d h = eqb→eq (digitOf (charOf d)) d (below (λ d. eqb (digitOf (charOf d)) d) 16 tt d h)
+
+pub said-char : (d : ℕ) → d < 16 → said (charOf d) ≡ d
+unfolding said charOf
+said-char d h = eqb→eq (said (charOf d)) d (below (λ d. eqb (said (charOf d)) d) 16 tt d h)
+
+pub digit-small : (c : ℕ) → digitOf c < 16
+unfolding digitOf
+digit-small c = omega arith
 
 pub char-range : (d : ℕ) → d < 16 → (48 ≤ charOf d) × (charOf d ≤ 70)
 unfolding charOf
@@ -23,27 +35,31 @@ char-range d h =
     let t = and-yes (leb 48 (charOf d)) (leb (charOf d) 70) (below (λ d. leb 48 (charOf d) && leb (charOf d) 70) 16 tt d h) in
     (leb→le 48 (charOf d) (t .0), leb→le (charOf d) 70 (t .1))
 
--- the digit of a character, by the four tests
-pub digit-cases : (P : ℕ → ℕ → Type 0) → ((c : ℕ) → P c 16) → ((c : ℕ) → 48 ≤ c → c ≤ 57 → P c (c - 48))
-    → ((c : ℕ) → 65 ≤ c → c ≤ 70 → P c (c - 65 + 10)) → (c : ℕ) → P c (digitOf c)
-unfolding digitOf
-digit-cases P none low high c =
+-- what a character says, by the four tests
+said-cases : (P : ℕ → ℕ → Type 0) → ((c : ℕ) → P c 16) → ((c : ℕ) → 48 ≤ c → c ≤ 57 → P c (c - 48))
+    → ((c : ℕ) → 65 ≤ c → c ≤ 70 → P c (c - 65 + 10)) → (c : ℕ) → P c (said c)
+unfolding said
+said-cases P none low high c =
     by-cond (P c) (within "0" "9" c) (λ t. let u = and-yes (leb 48 c) (leb c 57) t in low c (leb→le 48 c (u .0)) (leb→le c 57 (u .1)))
     (λ t. by-cond (P c) (within "A" "F" c) (λ v. let u = and-yes (leb 65 c) (leb c 70) v in high c (leb→le 65 c (u .0)) (leb→le c 70 (u .1)))
     (λ v. none c))
 
-pub char-digit : (c : ℕ) → digitOf c < 16 → charOf (digitOf c) ≡ c
+pub char-said : (c : ℕ) → said c < 16 → charOf (said c) ≡ c
 unfolding charOf
-char-digit =
-    digit-cases (λ (c d : ℕ). d < 16 → charOf d ≡ c)
+char-said =
+    said-cases (λ (c d : ℕ). d < 16 → charOf d ≡ c)
     (λ c h. absurd (omega arith))
     (λ c l u h. by-cond (λ (r : ℕ). r ≡ c) (ltb (c - 48) 10) (λ t. omega arith) (λ t. absurd (omega (arith, nltb→le (c - 48) 10 t))))
     (λ c l u h. by-cond (λ (r : ℕ). r ≡ c) (ltb (c - 65 + 10) 10) (λ t. absurd (omega (arith, ltb→lt (c - 65 + 10) 10 t))) (λ t. omega arith))
 
+-- a character that says a digit says this one
+pub digit-said : (c : ℕ) → said c < 16 → digitOf c ≡ said c
+digit-said c h = rw (char-said c h) at (digit-char (said c) h)
+
 -- a character is hex if it says a digit, and only then
-pub hex-digit : (c : ℕ) → T (isHex c) → digitOf c < 16
-unfolding isHex digitOf
-hex-digit c = go (within "0" "9" c) refl
+pub hex-said : (c : ℕ) → T (isHex c) → said c < 16
+unfolding isHex said
+hex-said c = go (within "0" "9" c) refl
   where
     go : (low : Bool) → within "0" "9" c ≡ low → T (low || within "A" "F" c) → cond low (c - 48) (cond (within "A" "F" c) (c - 65 + 10) 16) < 16
     go true e t = let u = and-yes (leb 48 c) (leb c 57) (subst T (sym e) tt) in omega (arith, leb→le 48 c (u .0), leb→le c 57 (u .1))
@@ -51,33 +67,33 @@ hex-digit c = go (within "0" "9" c) refl
         let u = and-yes (leb 65 c) (leb c 70) t in
         by-cond (λ (d : ℕ). d < 16) (within "A" "F" c) (λ v. omega (arith, leb→le 65 c (u .0), leb→le c 70 (u .1))) (λ v. absurd (T-not (within "A" "F" c) v t))
 
-pub digit-hex : (c : ℕ) → digitOf c < 16 → T (isHex c)
-unfolding isHex digitOf
-digit-hex c = go (within "0" "9" c) (within "A" "F" c)
+pub said-hex : (c : ℕ) → said c < 16 → T (isHex c)
+unfolding isHex said
+said-hex c = go (within "0" "9" c) (within "A" "F" c)
   where
     go : (low high : Bool) → cond low (c - 48) (cond high (c - 65 + 10) 16) < 16 → T (low || high)
     go true high h = tt
     go false true h = tt
     go false false h = absurd (omega arith)
 
-pub digit-range : (c : ℕ) → digitOf c < 16 → (48 ≤ c) × (c ≤ 70)
-digit-range c h = rw (char-digit c h) at (char-range (digitOf c) h)
+pub said-range : (c : ℕ) → said c < 16 → (48 ≤ c) × (c ≤ 70)
+said-range c h = rw (char-said c h) at (char-range (said c) h)
 
 -- ---- many characters: every one is hex, as a type
 
 abbrev pub Hexy : List ℕ → Type 0
 Hexy [] = Unit {0}
-Hexy (c ∷ cs) = (digitOf c < 16) × Hexy cs
+Hexy (c ∷ cs) = (said c < 16) × Hexy cs
 
 pub hexy-yes : (cs : List ℕ) → T (allHex cs) → Hexy cs
 unfolding allHex
 hexy-yes [] t = tt
-hexy-yes (c ∷ cs) t = let u = and-yes (isHex c) (allHex cs) t in (hex-digit c (u .0), hexy-yes cs (u .1))
+hexy-yes (c ∷ cs) t = let u = and-yes (isHex c) (allHex cs) t in (hex-said c (u .0), hexy-yes cs (u .1))
 
 pub yes-hexy : (cs : List ℕ) → Hexy cs → T (allHex cs)
 unfolding allHex
 yes-hexy [] h = tt
-yes-hexy (c ∷ cs) h = yes-and (isHex c) (allHex cs) (digit-hex c (h .0)) (yes-hexy cs (h .1))
+yes-hexy (c ∷ cs) h = yes-and (isHex c) (allHex cs) (said-hex c (h .0)) (yes-hexy cs (h .1))
 
 pub hexy-join : (s t : List ℕ) → Hexy s → Hexy t → Hexy (s ++ t)
 hexy-join [] t h k = k
@@ -101,8 +117,8 @@ pub hexy-hexes : (bs : List ℕ) → Bytes bs → Hexy (hexes bs)
 unfolding hexes
 hexy-hexes [] h = tt
 hexy-hexes (b ∷ bs) h =
-    let hi = digit-char (b / 16) (omega (arith, h .0)) in
-    let lo = digit-char (b % 16) (omega arith) in
+    let hi = said-char (b / 16) (omega (arith, h .0)) in
+    let lo = said-char (b % 16) (omega arith) in
     (omega (arith, h .0), (omega arith, hexy-hexes bs (h .1)))
 
 pub length-hexes : (bs : List ℕ) → length (hexes bs) ≡ 2 * length bs
@@ -121,7 +137,7 @@ byte-pair b h = omega (arith, digit-char (b / 16) (omega arith), digit-char (b %
 
 pub byte-small : (x y : ℕ) → byteOf x y < 256
 unfolding byteOf
-byte-small x y = omega arith
+byte-small x y = omega (arith, digit-small x, digit-small y)
 
 pub unhexes-hexes : (bs : List ℕ) → Bytes bs → unhexes (hexes bs) ≡ bs
 unfolding hexes unhexes
@@ -139,9 +155,9 @@ unfolding hexes unhexes byteOf
 hexes-unhexes [] h e = refl
 hexes-unhexes (x ∷ []) h e = absurd (omega arith)
 hexes-unhexes (x ∷ y ∷ cs) h e =
-    let hi : byteOf x y / 16 ≡ digitOf x = omega arith in
-    let lo : byteOf x y % 16 ≡ digitOf y = omega arith in
-    cc (char-digit x (h .0), char-digit y (h .1 .0), hexes-unhexes cs (h .1 .1) (omega arith))
+    let hi : byteOf x y / 16 ≡ said x = omega (arith, digit-said x (h .0), digit-said y (h .1 .0)) in
+    let lo : byteOf x y % 16 ≡ said y = omega (arith, digit-said x (h .0), digit-said y (h .1 .0)) in
+    cc (char-said x (h .0), char-said y (h .1 .0), hexes-unhexes cs (h .1 .1) (omega arith))
 
 -- the two bytes of a word
 pub bytes-word : (w : ℕ) → w < 65536 → Bytes (word w)
@@ -169,7 +185,3 @@ pub word-seam : (s t : List ℕ) → wordAt (s ++ t) (length s) ≡ wordAt t 0
 unfolding wordAt byteAt
 word-seam [] t = refl
 word-seam (x ∷ s) t = word-seam s t
-
-pub word-small : (cs : List ℕ) (i : ℕ) → wordAt cs i < 65536
-unfolding wordAt byteAt
-word-small cs i = omega (arith, byte-small (getD cs i 0) (getD cs (suc i) 0), byte-small (getD cs (suc (suc i)) 0) (getD cs (suc (suc (suc i))) 0))

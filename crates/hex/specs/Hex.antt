@@ -12,9 +12,9 @@ within first last c = leb (code first) c && leb c (code last)
 unfoldable pub isHex : ℕ → Bool
 isHex c = within "0" "9" c || within "A" "F" c
 
--- the digit that a character says, 0 to 15, or 16 where it says none
+-- the digit that a hex character says: `0` to `9` are 48 to 57, `A` to `F` are 65 to 70; any other is refused before it is read
 unfoldable pub digitOf : ℕ → ℕ
-digitOf c = cond (within "0" "9" c) (c - code "0") (cond (within "A" "F" c) (c - code "A" + 10) 16)
+digitOf c = (c % 16 + c / 64 * 9) % 16
 
 -- the character of a digit
 unfoldable pub charOf : ℕ → ℕ
@@ -32,9 +32,9 @@ unfoldable pub hexes : List ℕ → List ℕ
 hexes [] = []
 hexes (b ∷ bs) = charOf (b / 16) ∷ charOf (b % 16) ∷ hexes bs
 
--- and back: the byte that two characters say (what is no digit says 0), and the bytes that many say, two by two
+-- and back: the byte that two characters say, and the bytes that many say, two by two
 unfoldable pub byteOf : ℕ → ℕ → ℕ
-byteOf high low = digitOf high % 16 * 16 + digitOf low % 16
+byteOf high low = digitOf high * 16 + digitOf low
 
 unfoldable pub unhexes : List ℕ → List ℕ
 unhexes [] = []

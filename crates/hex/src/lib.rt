@@ -6,34 +6,25 @@ ghost use lib.ListN.{length};
 ghost use Rattle.buffer.specs.Put.{Room, Put};
 ghost use Rattle.hex.specs.Hex.{isHex, digitOf, charOf, byteOf, byteAt, wordAt, allHex, pairOf, hexes, word};
 
+// The characters that are judged at once.
+const BLOCK: usize = 64;
+
 // Whether a character is hex.
-pub fn is_hex(c: u8) -> bool
+fn is_hex(c: u8) -> bool
     ensures { λ r. ⌜ r ≡ isHex c ⌝ }
 {
     ((48 <= c) & (c <= 57)) | ((65 <= c) & (c <= 70))
 }
 
-// The digit that a character says, or 16 where it says none.
-pub fn digit(c: u8) -> u8
+// The digit that a hex character says. No branch: which characters are letters cannot be foreseen.
+fn digit(c: u8) -> u8
     ensures { λ r. ⌜ r ≡ digitOf c ⌝ }
 {
-    if c < 48 {
-        return 16;
-    }
-    if c <= 57 {
-        return c - 48;
-    }
-    if c < 65 {
-        return 16;
-    }
-    if c <= 70 {
-        return c - 55;
-    }
-    16
+    (c % 16 + c / 64 * 9) % 16
 }
 
 // The character of a digit; of a larger number, that of its last digit.
-pub fn char_of(d: u8) -> u8
+fn char_of(d: u8) -> u8
     ensures { λ r. ⌜ r ≡ charOf (d % 16) ⌝ }
 {
     let low = d % 16;
@@ -41,10 +32,10 @@ pub fn char_of(d: u8) -> u8
 }
 
 // The byte of two characters, the high digit first.
-pub fn byte_of(high: u8, low: u8) -> u8
+fn byte_of(high: u8, low: u8) -> u8
     ensures { λ r. ⌜ r ≡ byteOf high low ⌝ }
 {
-    digit(high) % 16 * 16 + digit(low) % 16
+    digit(high) * 16 + digit(low)
 }
 
 // The byte whose characters begin at a place.
@@ -63,8 +54,8 @@ pub fn word_at(s: &[u8], at: usize) -> u16
     byte_at(s, at) as u16 * 256 + byte_at(s, at + 2) as u16
 }
 
-// Whether every character is hex. No early exit, so that the loop is compiled to vector code.
-pub fn all_hex(s: &[u8]) -> bool
+// Whether every character of a block is hex. No early exit, so that the loop is compiled to vector code.
+fn all_hex_in(s: &[u8]) -> bool
     ensures { λ r. ⌜ r ≡ allHex (now (s .entry)) ⌝ }
 {
     let mut good = true;
@@ -72,6 +63,24 @@ pub fn all_hex(s: &[u8]) -> bool
     while i < s.len() {
         good = good & is_hex(s[i]);
         i += 1;
+    }
+    good
+}
+
+// Whether every character is hex: by blocks, the last of which may begin inside the one before, so that none is shorter.
+pub fn all_hex(s: &[u8]) -> bool
+    ensures { λ r. ⌜ r ≡ allHex (now (s .entry)) ⌝ }
+{
+    if s.len() < BLOCK {
+        return all_hex_in(s);
+    }
+    let last = s.len() - BLOCK;
+    let mut good = all_hex_in(&s[last..]);
+    let mut i: usize = 0;
+    while BLOCK <= s.len() - i {
+        let e = i + BLOCK;
+        good = good & all_hex_in(&s[i..e]);
+        i += BLOCK;
     }
     good
 }

@@ -23,10 +23,3 @@ module _ {A X : Type 0} (none : A) (how : X → ℕ × A) where
 
     pub when-refused : {why : Refusal} → t ≡ Taken.Refused why → (w ≡ refuse (number why)) × (a ≡ none)
     when-refused g = refuse-of w (sym (ap (λ (y : Taken). paper y a) g) ∙ e)
-
-    -- and from the format's side
-    pub if-told : {x : X} → w ≡ told x → paper t a ≡ took (how x .0) (how x .1)
-    if-told g = e ∙ ap (taken none how) g
-
-    pub if-refuse : {k : ℕ} → w ≡ refuse k → paper t a ≡ refused k none
-    if-refuse g = e ∙ ap (taken none how) g

@@ -126,4 +126,4 @@ unfolding keeps
 reading-keeps t q stretch r reads e =
     let p = keeps-parts t e in
     let kept : rule (members (r .table)) ≡ true = ap (λ (l : Left). rule (l .modules)) (reads .is) ∙ read-rule (keeps t) (members t) q stretch (p .1) in
-    rw (kept, reads .count, le-leb (t .count) 12 (p .0))
+    rw (kept, reads .kept .0, le-leb (t .count) 12 (p .0))

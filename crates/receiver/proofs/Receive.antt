@@ -9,8 +9,7 @@ use lib.ListN.{length, take, set, length-append, length-set}
 use lib.Seq.{append-snoc, length-take-le, take-suc-set}
 use lib.Dec.{ltb, eqb, eqb→eq, ltb→lt, nltb→le}
 use Rattle.buffer.proofs.Lists.{by-cond, never}
-use Rattle.hex.specs.Hex.{digitOf}
-use Rattle.hex.proofs.Laws.{Hexy, digit-range}
+use Rattle.hex.proofs.Laws.{said, Hexy, said-range}
 use Rattle.frame.specs.declared.Header.{Header}
 use Rattle.frame.specs.Frame.{SOI, CR, Whole, Frames}
 use Rattle.frame.specs.Judge.{frame, judge}
@@ -37,8 +36,8 @@ kind-cr b =
     (λ t. by-cond (λ (k : Kind). k ≡ cr → b ≡ CR) (eqb b CR) (λ u e. eqb→eq b CR u) (λ u e. cc))
 
 -- hex characters are neither
-kind-hex : (b : ℕ) → digitOf b < 16 → kind b ≡ other
-kind-hex b h = let r = digit-range b h in is-other b (λ e. omega arith) (λ e. omega arith)
+kind-hex : (b : ℕ) → said b < 16 → kind b ≡ other
+kind-hex b h = let r = said-range b h in is-other b (λ e. omega arith) (λ e. omega arith)
 
 -- ---- the characters that a receiver holds
 
@@ -146,7 +145,7 @@ hex-by x d (Open n) store f e l =
     let s : take (suc n) (set store n x) ≡ d ++ x ∷ [] = take-suc-set store n x (omega (arith, f .0, ap length q)) ∙ ap (λ (y : List ℕ). y ++ x ∷ []) q in
     by-cond (λ (a : After). holds a ≡ some (d ++ x ∷ [])) (ltb n 4110) (λ t. ap some s) (λ t. absurd (omega (arith, nltb→le n 4110 t, ap length q)))
 
-step-hex : (x : ℕ) (d : List ℕ) (r : Receiver) (store : List ℕ) → Fits r store → held r store ≡ some d → digitOf x < 16 → length d < 4110
+step-hex : (x : ℕ) (d : List ℕ) (r : Receiver) (store : List ℕ) → Fits r store → held r store ≡ some d → said x < 16 → length d < 4110
     → holds (step r store x) ≡ some (d ++ x ∷ [])
 step-hex x d r store f e h l = rw (step-within r store x (f .0) (f .1), kind-hex x h) (hex-by x d r store f e l)
 

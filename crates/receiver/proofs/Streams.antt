@@ -9,8 +9,7 @@ use native.Mathlib.Omega.{arith}
 use lib.ListN.{length, getD, take, drop, set, length-append, length-drop, take-append-drop, List·getD-eq-default, List·getD-append}
 use lib.Seq.{set-split, take-suc, drop-cons, append-snoc, slice, length-take-le, getD-take, getD-append-seam, getD-append-add, take-append-add, drop-append-add, drop-append-le, split-at, take-append-le, take-at, length-slice}
 use Rattle.buffer.proofs.Lists.{levi, Levi}
-use Rattle.hex.specs.Hex.{digitOf}
-use Rattle.hex.proofs.Laws.{Hexy, hexy-cut, hexy-join}
+use Rattle.hex.proofs.Laws.{said, Hexy, hexy-cut, hexy-join}
 use Rattle.frame.specs.declared.Header.{Header}
 use Rattle.frame.specs.Frame.{SOI, CR, infoAt, Whole, Frames}
 use Rattle.frame.specs.Judge.{frame, lenid}
@@ -24,23 +23,23 @@ use Rattle.receiver.proofs.Receive.{Closes, heard, stands, after-join}
 
 -- ---- hex characters, and characters that are not
 
-not-hex : (s z : List ℕ) (r : ℕ) (d : List ℕ) → Hexy s → 16 ≤ digitOf r → s ≡ z ++ r ∷ d → ⊥
+not-hex : (s z : List ℕ) (r : ℕ) (d : List ℕ) → Hexy s → 16 ≤ said r → s ≡ z ++ r ∷ d → ⊥
 not-hex s z r d h o e = omega (arith, hexy-cut z (r ∷ d) (subst Hexy e h) .1 .0)
 
-cr-odd : 16 ≤ digitOf CR
-unfolding digitOf
+cr-odd : 16 ≤ said CR
+unfolding said
 cr-odd = omega arith
 
-soi-odd : 16 ≤ digitOf SOI
-unfolding digitOf
+soi-odd : 16 ≤ said SOI
+unfolding said
 soi-odd = omega arith
 
 -- hex characters but for one place: a character r that is not hex can stand only there
-odd-one : (x : List ℕ) (b : ℕ) (y z : List ℕ) (r : ℕ) (d : List ℕ) → Hexy x → Hexy y → 16 ≤ digitOf r → x ++ b ∷ y ≡ z ++ r ∷ d
+odd-one : (x : List ℕ) (b : ℕ) (y z : List ℕ) (r : ℕ) (d : List ℕ) → Hexy x → Hexy y → 16 ≤ said r → x ++ b ∷ y ≡ z ++ r ∷ d
     → (z ≡ x) × (b ≡ r) × (d ≡ y)
 odd-one [] b y [] r d h k o e = (refl, head-eq-of-cons-eq e, sym (tail-eq-of-cons-eq e))
 odd-one [] b y (a ∷ z) r d h k o e = absurd (not-hex y z r d k o (tail-eq-of-cons-eq e))
-odd-one (a ∷ x) b y [] r d h k o e = absurd (omega (arith, ap digitOf (head-eq-of-cons-eq e), h .0))
+odd-one (a ∷ x) b y [] r d h k o e = absurd (omega (arith, ap said (head-eq-of-cons-eq e), h .0))
 odd-one (a ∷ x) b y (a′ ∷ z) r d h k o e =
     let q = odd-one x b y z r d (h .1) k o (tail-eq-of-cons-eq e) in
     (cc (q .0, head-eq-of-cons-eq e), q .1, q .2)

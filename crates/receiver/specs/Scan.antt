@@ -1,7 +1,9 @@
 -- Looking for SOI, and for SOI or CR, in a list.
+use mathlib.Core.Path.{_≡_}
 use mathlib.Core.Bool.{Bool, true, false, cond, _||_}
 use mathlib.Core.List.{List, [], _∷_}
-use Prim.Native.Nat.{ℕ, suc}
+use Prim.Native.Nat.{ℕ, suc, _+_, _≤_}
+use lib.ListN.{length, drop}
 use lib.Dec.{eqb}
 use Rattle.frame.specs.Frame.{SOI, CR}
 
@@ -20,3 +22,7 @@ any test (x ∷ xs) = test x || any test xs
 unfoldable pub before : (ℕ → Bool) → List ℕ → ℕ
 before test [] = 0
 before test (x ∷ xs) = cond (test x) 0 (suc (before test xs))
+
+-- a place up to which no element meets it
+abbrev pub Clear : (ℕ → Bool) → List ℕ → ℕ → Type 0
+Clear test s i = (i ≤ length s) × (before test s ≡ i + before test (drop i s))

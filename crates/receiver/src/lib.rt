@@ -2,11 +2,11 @@
 
 ghost use mathlib.Core.Path.{_≡_};
 ghost use mathlib.Core.Bool.{cond};
-ghost use Prim.Native.Nat.{_≤_};
+ghost use Prim.Native.Nat.{_<_, _≤_};
 ghost use lib.ListN.{length};
 ghost use Rattle.buffer.specs.Put.{Room};
 ghost use Rattle.frame.specs.Judge.{paper as paperJudged};
-ghost use Rattle.receiver.specs.Scan.{isSoi, isEnd, any, before};
+ghost use Rattle.receiver.specs.Scan.{isSoi, isEnd, any, before, Clear};
 ghost use Rattle.receiver.specs.Step.{paper, beyond, Steps};
 ghost use Rattle.receiver.specs.Run.{isNothing, countOf, moved, Stored, Passed, Runs};
 use frame::CR;
@@ -42,10 +42,12 @@ pub struct Ran {
     pub held: usize,
 }
 
-// The bytes of a block that is scanned at once while waiting, and in a stretch.
-const WIDE: usize = 128;
+// The bytes of a block that is scanned at once: a wide one while waiting, a narrow one where an end is near and in a stretch.
+const WIDE: usize = 512;
 
 const BLOCK: usize = 32;
+
+const HALF: usize = 16;
 
 // The bytes at the end of a scan, which are stored with no branch on any of them.
 const FEW: usize = 4;
@@ -86,25 +88,28 @@ fn has_end(s: &[u8]) -> bool
     soi | cr
 }
 
-// The place of the first SOI, or the length. Where frames follow each other it is the first byte; else block by block, then byte by byte
-// in the block that has it.
-fn find_soi(s: &[u8]) -> usize
+// Passes blocks of a width from a place on, up to one that has a SOI.
+fn pass_without_soi(s: &[u8], from: usize, width: usize) -> usize
+    requires { ⌜ (0 < width) × Clear isSoi (now s) from ⌝ }
+    ensures { λ r. ⌜ Clear isSoi (now (s .entry)) r ⌝ }
+{
+    let mut i = from;
+    while width <= s.len() - i {
+        let e = i + width;
+        if has_soi(&s[i..e]) {
+            return i;
+        }
+        i += width;
+    }
+    i
+}
+
+// The place of the first SOI from a place on, or the length: byte by byte.
+fn first_soi(s: &[u8], from: usize) -> usize
+    requires { ⌜ Clear isSoi (now s) from ⌝ }
     ensures { λ r. ⌜ r ≡ before isSoi (now (s .entry)) ⌝ }
 {
-    if s.len() == 0 {
-        return 0;
-    }
-    if s[0] == SOI {
-        return 0;
-    }
-    let mut i: usize = 0;
-    while WIDE <= s.len() - i {
-        let e = i + WIDE;
-        if has_soi(&s[i..e]) {
-            break;
-        }
-        i += WIDE;
-    }
+    let mut i = from;
     while i < s.len() {
         if s[i] == SOI {
             return i;
@@ -114,26 +119,45 @@ fn find_soi(s: &[u8]) -> usize
     i
 }
 
+// The place of the first SOI, or the length. Where frames follow each other it is the first byte; else wide blocks are passed, then
+// narrow ones in the wide one that has it.
+fn find_soi(s: &[u8]) -> usize
+    ensures { λ r. ⌜ r ≡ before isSoi (now (s .entry)) ⌝ }
+{
+    if s.len() == 0 {
+        return 0;
+    }
+    if s[0] == SOI {
+        return 0;
+    }
+    let wide = pass_without_soi(s, 0, WIDE);
+    let near = pass_without_soi(s, wide, BLOCK);
+    first_soi(s, near)
+}
+
+// Passes blocks of a width from a place on, up to one that has a SOI or a CR.
+fn pass_plain(s: &[u8], from: usize, width: usize) -> usize
+    requires { ⌜ (0 < width) × Clear isEnd (now s) from ⌝ }
+    ensures { λ r. ⌜ Clear isEnd (now (s .entry)) r ⌝ }
+{
+    let mut i = from;
+    while width <= s.len() - i {
+        let e = i + width;
+        if has_end(&s[i..e]) {
+            return i;
+        }
+        i += width;
+    }
+    i
+}
+
 // How many bytes at the start are neither SOI nor CR, counted in fours: block by block, then four by four.
 fn plain(s: &[u8]) -> usize
     ensures { λ r. ⌜ r ≤ before isEnd (now (s .entry)) ⌝ }
 {
-    let mut i: usize = 0;
-    while BLOCK <= s.len() - i {
-        let e = i + BLOCK;
-        if has_end(&s[i..e]) {
-            break;
-        }
-        i += BLOCK;
-    }
-    while FEW <= s.len() - i {
-        let e = i + FEW;
-        if has_end(&s[i..e]) {
-            break;
-        }
-        i += FEW;
-    }
-    i
+    let blocks = pass_plain(s, 0, BLOCK);
+    let halves = pass_plain(s, blocks, HALF);
+    pass_plain(s, halves, FEW)
 }
 
 fn event_of(judged: Judged) -> Event

@@ -28,7 +28,7 @@ use Rattle.infos.proofs.Answers.{when-taken, when-refused}
 use Rattle.infos.specs.Groups.{noPlaces, grouped}
 use Rattle.table.specs.declared.Table.{Table}
 use Rattle.table.specs.Table.{members, countOn}
-use Rattle.changes.specs.Changes.{replaced, dealt, TableIs}
+use Rattle.changes.specs.Changes.{Kept, replaced, dealt, TableIs}
 use Rattle.reply.specs.declared.Outcome.the-variants.{Read, Refused}
 use Rattle.reply.specs.declared.Reading.{Reading}
 use Rattle.reply.specs.Read.{Data, forAll, Left, leaves, read, refused, given, Reads}
@@ -36,7 +36,7 @@ use Rattle.reply.specs.Read.{Data, forAll, Left, leaves, read, refused, 
 -- a refusal leaves the table as it was
 pub not-read : (t : Table) (left : Left) (why : Refusal) → leaves (refused (number why)) noMaker (members t) ≡ left
     → Reads left t (record { outcome = Refused why; maker = noMaker; table = t })
-not-read t left why e = record { is = e; count = refl }
+not-read t left why e = record { is = e; kept = (refl, refl) }
 
 -- ---- one module
 
@@ -47,7 +47,7 @@ module _ {A X : Type 0} (none : A) (how : X → ℕ × A) (w : Told X) (tk : Tak
         let r = when-refused none how w tk a e g in
         not-read t _ why (ap (λ (y : Told X). given ver (members t) (mapped y (λ x. (how x .0, after (how x .1))))) (sym (r .0)))
 
-    pub one-read : (flag : ℕ) → tk ≡ Taken.Taken flag → (maker : List ℕ) (next : Table) → _≡_ {A = List ℕ × List Module} (maker, members next) (after a) → next .count ≡ t .count
+    pub one-read : (flag : ℕ) → tk ≡ Taken.Taken flag → (maker : List ℕ) (next : Table) → _≡_ {A = List ℕ × List Module} (maker, members next) (after a) → Kept t next
         → Reads (given ver (members t) (mapped w (λ x. (how x .0, after (how x .1))))) t (record { outcome = Read ver 0 flag; maker = maker; table = next })
     one-read flag g maker next m c =
         let r = when-taken none how w tk a e g in
@@ -56,7 +56,7 @@ module _ {A X : Type 0} (none : A) (how : X → ℕ × A) (w : Told X) (tk : Tak
           is =
               (λ i. leaves (read ver 0 (sym (r .2) i)) (both i .0) (both i .1))
               ∙ ap (λ (y : Told X). given ver (members t) (mapped y (λ x. (how x .0, after (how x .1))))) (sym (r .1));
-          count = c;
+          kept = c;
         }
 
 -- ---- the group
@@ -137,5 +137,5 @@ module _ {A : Type 0} (none : A) (f : A → Module → Module) (w : Told ((ℕ �
               sym (ap (λ (y : Told ((ℕ × ℕ) × List A)). given ver (members t) (forAll f (members t) y)) is-told
               ∙ rw (eq-eqb (length (x .1)) (countOn (members t)) (count-is ∙ n))
               (λ i. leaves (read ver 0 (flag-is i)) noMaker ((ap (dealt f (members t)) (sym values-are) ∙ sym (m .members-are)) i)));
-          count = m .count;
+          kept = m .kept;
         }

@@ -15,7 +15,7 @@ use Rattle.record.specs.Infos.{analogInfo, alarmInfo, limitsInfo, serialInfo, v
 use Rattle.infos.specs.Nothing.{nothing, noMaker}
 use Rattle.table.specs.declared.Table.{Table}
 use Rattle.table.specs.Table.{members, countOn}
-use Rattle.changes.specs.Changes.{replaced, dealt, withAnalog, withAlarm, withLimits, withSerial, withVersion}
+use Rattle.changes.specs.Changes.{Kept, replaced, dealt, withAnalog, withAlarm, withLimits, withSerial, withVersion}
 use Rattle.command.specs.declared.Kind.{Kind}
 use Rattle.command.specs.declared.Kind.the-variants.{Analog, AnalogGroup, Alarm, AlarmGroup, Protocol, Maker, Limits, Serial, TurnOff, Version, Unserved}
 use Rattle.command.specs.Command.{formOf}
@@ -92,7 +92,7 @@ readReply keeps ms q stretch =
     (unless (gate ms q (words stretch)) ms (byCode ms q (words stretch) (unhexes (infoAt (words stretch .lenid) stretch))))
     (leaves (refused 31) noMaker ms)
 
--- the contract of the reply reader: the table keeps its count
+-- the contract of the reply reader: besides the members nothing of the table changes
 pub record Reads (left : Left) (t : Table) (r : Reading) : Type 0 where
   pub is : leaves (paper (r .outcome)) (r .maker) (members (r .table)) ≡ left
-  pub count : r .table .count ≡ t .count
+  pub kept : Kept t (r .table)

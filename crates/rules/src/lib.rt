@@ -6,7 +6,7 @@ use record::Module;
 use table::Table;
 
 // Whether a record by itself keeps the rule.
-pub fn is_fine(given: Module) -> bool
+fn is_fine(given: Module) -> bool
     ensures { λ r. ⌜ r ≡ fine given ⌝ }
 {
     let marked = (given.on <= 1) & (given.link_fault <= 1);

@@ -33,7 +33,7 @@ pub fn put_signed(out: &mut [u8], at: usize, value: i16) -> usize
 // ---- 92H
 
 // A 92H record.
-pub fn put_limits(out: &mut [u8], at: usize, limits: Limits) -> usize
+fn put_limits(out: &mut [u8], at: usize, limits: Limits) -> usize
     requires { ⌜ Room (now out) at (limitsRecord .put limits) ⌝ }
     ensures { λ r. ⌜ Put (now (out .entry)) at (limitsRecord .put limits) (now (out .exit)) r ⌝ }
 {
@@ -63,7 +63,7 @@ pub fn write_limits(out: &mut [u8], given: Module) -> Written
 // ---- 93H
 
 // A 93H record.
-pub fn put_serial(out: &mut [u8], at: usize, serial: [u8; 16]) -> usize
+fn put_serial(out: &mut [u8], at: usize, serial: [u8; 16]) -> usize
     requires { ⌜ Room (now out) at (serialRecord .put serial) ⌝ }
     ensures { λ r. ⌜ Put (now (out .entry)) at (serialRecord .put serial) (now (out .exit)) r ⌝ }
 {
@@ -89,7 +89,7 @@ pub fn write_serial(out: &mut [u8], given: Module) -> Written
 // ---- 96H
 
 // A 96H record.
-pub fn put_version(out: &mut [u8], at: usize, version: [u8; 5]) -> usize
+fn put_version(out: &mut [u8], at: usize, version: [u8; 5]) -> usize
     requires { ⌜ Room (now out) at (versionRecord .put version) ⌝ }
     ensures { λ r. ⌜ Put (now (out .entry)) at (versionRecord .put version) (now (out .exit)) r ⌝ }
 {

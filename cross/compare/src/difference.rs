@@ -118,6 +118,9 @@ fn say_case(f: &mut fmt::Formatter, case: &Case) -> fmt::Result {
     for (name, byte) in &parts.bytes {
         writeln!(f, "    {name}: {byte:02X}")?;
     }
+    if let Some(open) = &parts.open {
+        writeln!(f, "    open: {open:#X}")?;
+    }
     for (name, size) in &parts.sizes {
         writeln!(f, "    {name}: {size}")?;
     }

@@ -136,8 +136,16 @@ pub fn decoded(data: &[u8]) -> Input {
 
 fn receiver(bytes: &mut Bytes) -> Receiver {
     Receiver {
-        open: bytes.byte(),
+        open: open(bytes.byte()),
         count: bytes.size(),
+    }
+}
+
+/// The number that a byte stands for: its own, but with 80H one whose low byte is 0.
+fn open(byte: u8) -> usize {
+    match byte {
+        0x80 => 0x100,
+        byte => usize::from(byte),
     }
 }
 
@@ -411,8 +419,14 @@ fn put_size(data: &mut Vec<u8>, size: usize) {
     data.extend((size as u64).to_be_bytes());
 }
 
+/// The byte that stands for a number; 80H, which is open too, for those that have none.
+fn open_byte(number: usize) -> u8 {
+    let byte = (0..=u8::MAX).find(|&byte| open(byte) == number);
+    byte.unwrap_or(0x80)
+}
+
 fn put_receiver(data: &mut Vec<u8>, receiver: &Receiver) {
-    data.push(receiver.open);
+    data.push(open_byte(receiver.open));
     put_size(data, receiver.count);
 }
 

@@ -20,6 +20,8 @@ pub struct Parts<'a> {
     pub modules: Vec<&'a mut Module>,
     /// Bytes by value.
     pub bytes: Vec<(&'static str, &'a mut u8)>,
+    /// What says whether the receiver is open.
+    pub open: Option<&'a mut usize>,
     /// Sizes by value.
     pub sizes: Vec<(&'static str, &'a mut usize)>,
     /// A listing's offset and totals.
@@ -34,6 +36,7 @@ impl Parts<'_> {
             table: None,
             modules: Vec::new(),
             bytes: Vec::new(),
+            open: None,
             sizes: Vec::new(),
             totals: Vec::new(),
         }
@@ -49,7 +52,7 @@ fn header(header: &mut [u8; 4]) -> Vec<(&'static str, &mut u8)> {
 
 fn listing_parts(listing: &mut Listing) -> Parts<'_> {
     Parts {
-        bytes: vec![("open", &mut listing.receiver.open)],
+        open: Some(&mut listing.receiver.open),
         sizes: vec![("count", &mut listing.receiver.count)],
         totals: vec![
             ("offset", &mut listing.offset),
@@ -73,7 +76,8 @@ pub fn parts(case: &mut Case) -> Parts<'_> {
             byte,
         } => Parts {
             lent: Some(store),
-            bytes: vec![("byte", byte), ("open", &mut receiver.open)],
+            bytes: vec![("byte", byte)],
+            open: Some(&mut receiver.open),
             sizes: vec![("count", &mut receiver.count)],
             ..Parts::none()
         },
@@ -84,7 +88,7 @@ pub fn parts(case: &mut Case) -> Parts<'_> {
         } => Parts {
             texts: vec![("piece", piece)],
             lent: Some(store),
-            bytes: vec![("open", &mut receiver.open)],
+            open: Some(&mut receiver.open),
             sizes: vec![("count", &mut receiver.count)],
             ..Parts::none()
         },
@@ -342,6 +346,14 @@ impl<F: Fn(&Case) -> bool> Search<F> {
             .any(|smaller| self.attempt(|parts| *parts.bytes[at].1 = smaller))
     }
 
+    /// Waiting, or open by 1: a number between might have no byte of its own when it is saved.
+    fn open(&mut self) -> bool {
+        let value = self.count(|parts| parts.open.as_ref().map_or(0, |open| **open));
+        (0..value.min(2)).any(|smaller| {
+            self.attempt(|parts| parts.open.iter_mut().for_each(|open| **open = smaller))
+        })
+    }
+
     fn size(&mut self, at: usize) -> bool {
         let value = self.count(|parts| *parts.sizes[at].1);
         let smaller = [0, value / 2, value.saturating_sub(1)];
@@ -371,6 +383,9 @@ impl<F: Fn(&Case) -> bool> Search<F> {
             while self.byte(at) {
                 changed = true;
             }
+        }
+        while self.open() {
+            changed = true;
         }
         for at in 0..self.count(|parts| parts.sizes.len()) {
             while self.size(at) {

@@ -155,6 +155,25 @@ fn count_4110_is_too_many() {
     );
 }
 
+#[test]
+fn open_is_its_low_byte() {
+    let case = found(
+        receiver::all,
+        |case| {
+            let mut case = case.clone();
+            if let Case::Step { receiver, .. } | Case::Run { receiver, .. } = &mut case {
+                receiver.open &= 0xFF;
+            }
+            paper::outcome(&case)
+        },
+        20,
+    );
+    let Case::Step { receiver, .. } = case else {
+        panic!("{case:?}");
+    };
+    assert_eq!(receiver.open, 0x100);
+}
+
 fn with_module(case: &Case, change: impl FnOnce(&mut Module)) -> Outcome {
     let mut case = case.clone();
     if let Case::WriteRecord { module, .. } = &mut case {

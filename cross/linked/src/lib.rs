@@ -2,7 +2,8 @@
 //!
 //! The header's duties are on memory alone, and a Rust slice or value meets them all: it is aligned,
 //! initialised, alive for the call, and what is lent as `&mut` is reached by nothing else. So no
-//! function here tests anything, and each `unsafe` is one call.
+//! function here tests anything, and each `unsafe` is one call. What `bench` measures is inline, so
+//! that its calls are the archive's.
 
 #![no_std]
 
@@ -27,6 +28,7 @@ pub const CLOSING: usize = 38;
 pub const MODULES: usize = 12;
 
 /// Judges the bytes between SOI and CR: a frame, or refused with 1 or 3 to 8.
+#[inline]
 pub fn judge(stretch: &[u8]) -> Event {
     // SAFETY: the slice is readable for its length.
     unsafe { sys::hanuzak_judge(stretch.as_ptr(), stretch.len()) }
@@ -39,12 +41,14 @@ pub fn receiver_new() -> Receiver {
 }
 
 /// One byte of the stream.
+#[inline]
 pub fn step(receiver: Receiver, store: &mut [u8], byte: u8) -> Stepped {
     // SAFETY: the slice is ours alone for its length.
     unsafe { sys::hanuzak_step(receiver, store.as_mut_ptr(), store.len(), byte) }
 }
 
 /// A piece of the stream, up to and including the byte that gives an event.
+#[inline]
 pub fn run(receiver: Receiver, store: &mut [u8], piece: &[u8]) -> Ran {
     let (at, n) = (store.as_mut_ptr(), store.len());
     // SAFETY: the store is ours alone for its length, so it does not overlap the piece, which is readable for its own.
@@ -52,6 +56,7 @@ pub fn run(receiver: Receiver, store: &mut [u8], piece: &[u8]) -> Ran {
 }
 
 /// A frame from SOI to CR around INFO's bytes: 33, then 32.
+#[inline]
 pub fn write_frame(ver: u8, adr: u8, cid1: u8, cid2: u8, info: &[u8], out: &mut [u8]) -> Written {
     let (to, m) = (out.as_mut_ptr(), out.len());
     // SAFETY: the buffer is ours alone for its length, so it does not overlap INFO, which is readable for its own.
@@ -127,6 +132,7 @@ pub fn switch_off(table: &mut [Module], at: usize) {
 }
 
 /// The answer to the bytes between SOI and CR of a question; an accepted 95H switches its module off.
+#[inline]
 pub fn answer(table: &mut [Module], station: Station, stretch: &[u8], out: &mut [u8]) -> Answered {
     let (records, n) = (table.as_mut_ptr(), table.len());
     let (to, k) = (out.as_mut_ptr(), out.len());
@@ -135,6 +141,7 @@ pub fn answer(table: &mut [Module], station: Station, stretch: &[u8], out: &mut 
 }
 
 /// Reads the reply to a question from the bytes between SOI and CR into the table.
+#[inline]
 pub fn read_reply(table: &mut [Module], question: Question, stretch: &[u8]) -> Reply {
     let (records, n) = (table.as_mut_ptr(), table.len());
     // SAFETY: the table is ours alone for its length, so it does not overlap the stretch, which is readable for its own.

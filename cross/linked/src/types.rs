@@ -129,7 +129,7 @@ pub struct Event {
 #[derive(Clone, Copy, Debug, Default, PartialEq, Eq)]
 pub struct Receiver {
     /// 0 for waiting.
-    pub open: u8,
+    pub open: usize,
     /// How many characters stand at the front of the store.
     pub count: usize,
 }

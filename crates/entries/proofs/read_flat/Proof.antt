@@ -13,7 +13,7 @@ reply-requires : tie.Need-reply-requires
 reply-requires c κs = search needs
 
 returns : tie.Need-returns
-returns c = record { told = c .reply .ensures ∙ ap (λ (l : Read.Left). replyOf (l .outcome) (l .maker)) (c .before .before .before .read .ensures .is); members-are = ap (λ (l : Read.Left). l .modules) (c .before .before .before .read .ensures .is); count-is = c .before .before .before .read .ensures .count }
+returns c = record { told = c .reply .ensures ∙ ap (λ (l : Read.Left). replyOf (l .outcome) (l .maker)) (c .before .before .before .read .ensures .is); members-are = ap (λ (l : Read.Left). l .modules) (c .before .before .before .read .ensures .is); kept = c .before .before .before .read .ensures .kept }
 
 pub read-flat-spec : {M : Type 1} → statement M
 read-flat-spec = tie.close (tie.spec read-requires reply-requires returns)

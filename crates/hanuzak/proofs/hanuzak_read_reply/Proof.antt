@@ -165,7 +165,7 @@ module _ {M : Type 1} (𝓤 : URA M) (H : Heap 𝓤) (A : Atoms 𝓤) (W : Given
         move ! (7 ∷ 8 ∷ []) $ fjoin ! $ move ! (8 ∷ 0 ∷ []) $ fjoin ! $ move ! (4 ∷ 0 ∷ []) $ fjoin ! $ move ! (5 ∷ 6 ∷ []) $ join ! $
         -- [κ₁; what is loaded, question and stretch; t; κ₀; true; …; _10; …]
         asks ! fm reads.ended (reads.clauses 𝓤 H A mem run) known-reads (((κ₁, tt), (q₁, tt), tt, (l, (qn, (q, tt))), (tableVal l ∷ [], (questionVal qn ∷ [], (qv ∷ [], tt)))), tt) (id⊢ 𝓤 (emp 𝓤)) (‵ (flft κ₁ q₁) ⊛ ‵ ftrue) refl readVal (LL.tells G.the-type G′.the-laws)
-        (λ r ws. ReadsFlat (readReply (keeps l) (members l) qn (q .now)) (l .count) r) (λ r ws. refl)
+        (λ r ws. ReadsFlat (readReply (keeps l) (members l) qn (q .now)) l r) (λ r ws. refl)
         (and-then ! (loads ! (from ! (stop !)) (look ! 17 refl)) (and-then ! (loads ! (from ! (stop !)) (look ! 21 refl)) (and-then ! (loads ! (from ! (stop !)) (look ! 19 refl)) (no-more !)))) (λ r ws er isr.
         land ! (from ! (stop !)) (init ! 17 refl (LL.lawful G.the-type G′.the-laws 𝓤 H A W .typed r _ isr .0)) $
         -- [κ₁; what is read; …; t; κ₀; true; …; _10; …]
@@ -182,7 +182,7 @@ module _ {M : Type 1} (𝓤 : URA M) (H : Heap 𝓤) (A : Atoms 𝓤) (W : Given
         move ! (28 ∷ 29 ∷ []) $ free1 ! $ move ! (26 ∷ 27 ∷ []) $ free1 ! $ move ! (24 ∷ 25 ∷ []) $ free1 ! $ move ! (22 ∷ 23 ∷ []) $ free1 ! $ move ! (20 ∷ 21 ∷ []) $ free1 ! $ move ! (18 ∷ 19 ∷ []) $ free1 ! $ move ! (16 ∷ 17 ∷ []) $ free1 ! $ move ! (14 ∷ 15 ∷ []) $ free1 ! $ move ! (12 ∷ 13 ∷ []) $ free1 ! $ move ! (10 ∷ 11 ∷ []) $ free1 ! $ move ! (8 ∷ 9 ∷ []) $ free1 ! $ free0 ! $
         -- [κ₀; true; what is said of the last table; κ₁; what is read; …]
         move ! (2 ∷ []) $ fsplit ! $ fsplit ! $ move ! (1 ∷ []) $ feqL ! (λ lt. keep ! (2 ∷ 4 ∷ 0 ∷ []) $
-        by ! (exits (r .reply) (LL.owed G.the-type G′.the-laws r (readVal r ∷ []) isr .0) (us .0) (lent-reading ys qn (q .now) r (us .0) (twelve (r .table) _ (LL.owed G.the-type G′.the-laws r (readVal r ∷ []) isr .1 .0)) (subst (λ (k : Table). ReadsFlat (readReply (keeps k) (members k) qn (q .now)) (k .count) r) el er) eu) lt))))))))))))))))))
+        by ! (exits (r .reply) (LL.owed G.the-type G′.the-laws r (readVal r ∷ []) isr .0) (us .0) (lent-reading ys qn (q .now) r (us .0) (twelve (r .table) _ (LL.owed G.the-type G′.the-laws r (readVal r ∷ []) isr .1 .0)) (subst (λ (k : Table). ReadsFlat (readReply (keeps k) (members k) qn (q .now)) k r) el er) eu) lt))))))))))))))))))
 
 module _ {M : Type 1} (𝓤 : URA M) (H : Heap 𝓤) (A : Atoms 𝓤) (W : Given 𝓤 H A) (mem : Memory → SProp 𝓤) (run : Routine → Fun 𝓤) (𝓣 : Tables 𝓤 H)
     (known-load : Triple 𝓤 (𝓣 .C #load) (Load 𝓤 H A mem run)) (known-reads : Triple 𝓤 (𝓣 .C #reads) (Reads 𝓤 H A mem run)) (known-stores : Triple 𝓤 (𝓣 .C #stores) (Stores 𝓤 H A mem run)) where

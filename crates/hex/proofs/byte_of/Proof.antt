@@ -2,6 +2,7 @@
 use Prim.Native.Nat.{_-_}
 use borrow.Author.Needs.{needs}
 use Rattle.hex.specs.Hex.{byteOf}
+use Rattle.hex.proofs.Laws.{digit-small}
 use Rattle.hex.proofs.byte_of.Statement.{statement}
 use Rattle.hex.proofs.byte_of.Tie as tie
 
@@ -9,13 +10,13 @@ digit-requires : tie.Need-digit-requires
 digit-requires c κs = search needs
 
 mul-result : tie.Need-mul-result
-mul-result c = search needs
+mul-result c = search (needs, c .digit .ensures, digit-small (c .before .args .high))
 
 digit-requires-2 : tie.Need-digit-requires-2
 digit-requires-2 c κs = search needs
 
 add-result : tie.Need-add-result
-add-result c = search needs
+add-result c = search (needs, c .before .digit .ensures, c .digit2 .ensures, digit-small (c .before .before .args .high), digit-small (c .before .before .args .low))
 
 returns : tie.Need-returns
 unfolding byteOf

@@ -45,7 +45,7 @@ returns-2 : tie.Need-returns-2
 returns-2 c = subst (Reads (readReply (keeps (c .before .before .before .before .before .before .before .before .before .args .table)) (members (c .before .before .before .before .before .before .before .before .before .args .table)) (c .before .before .before .before .before .before .before .before .before .args .question) (c .before .before .before .before .before .before .before .before .before .args .stretch .now)) (c .before .before .before .before .before .before .before .before .before .args .table)) (sym (c .not-read2 .ensures)) (not-read (c .before .before .before .before .before .before .before .before .before .args .table) _ _ (way-refused (keeps (c .before .before .before .before .before .before .before .before .before .args .table)) (members (c .before .before .before .before .before .before .before .before .before .args .table)) (c .before .before .before .before .before .before .before .before .before .args .question) (c .before .before .before .before .before .before .before .before .before .args .stretch .now) (sym (c .before .before .before .before .before .before .before .keeps-rule .ensures) ∙ not-false (c .before .before .before .before .before .before .before .keeps-rule .result) (c .before .before .before .before .before .before .if1 .left)) (wordsOf (c .before .before .before .before .before .hear .result)) (c .before .before .before .before .before .hear .ensures) (c .before .before .entry .given .0 .0) (sym (ap paper (c .before .before .entry .given .1)) ∙ c .before .before .before .before .gate .ensures)))
 
 returns-3 : tie.Need-returns-3
-returns-3 c = record { is = c .read-open .ensures .is ∙ way-open (keeps (c .before .before .before .before .before .before .before .before .args .table)) (members (c .before .before .before .before .before .before .before .before .args .table)) (c .before .before .before .before .before .before .before .before .args .question) (c .before .before .before .before .before .before .before .before .args .stretch .now) (sym (c .before .before .before .before .before .before .keeps-rule .ensures) ∙ not-false (c .before .before .before .before .before .before .keeps-rule .result) (c .before .before .before .before .before .if1 .left)) (wordsOf (c .before .before .before .before .hear .result)) (c .before .before .before .before .hear .ensures) (sym (ap paper (c .before .enum-told .given .1)) ∙ c .before .before .before .gate .ensures); count = c .read-open .ensures .count }
+returns-3 c = record { is = c .read-open .ensures .is ∙ way-open (keeps (c .before .before .before .before .before .before .before .before .args .table)) (members (c .before .before .before .before .before .before .before .before .args .table)) (c .before .before .before .before .before .before .before .before .args .question) (c .before .before .before .before .before .before .before .before .args .stretch .now) (sym (c .before .before .before .before .before .before .keeps-rule .ensures) ∙ not-false (c .before .before .before .before .before .before .keeps-rule .result) (c .before .before .before .before .before .if1 .left)) (wordsOf (c .before .before .before .before .hear .result)) (c .before .before .before .before .hear .ensures) (sym (ap paper (c .before .enum-told .given .1)) ∙ c .before .before .before .gate .ensures); kept = c .read-open .ensures .kept }
 
 pub read-spec : {M : Type 1} → statement M
 read-spec =

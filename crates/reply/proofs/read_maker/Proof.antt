@@ -32,7 +32,7 @@ returns c = subst (Reads (given (c .before .before .before .before .before .befo
 
 returns-2 : tie.Need-returns-2
 unfolding took
-returns-2 c = one-read noMaker bare (maker .get (unhexes (c .before .before .before .before .before .before .args .info .now))) (c .before .before .before .before .take-maker .result .taken) (c .before .before .before .before .take-maker .result .maker) (c .before .before .before .before .take-maker .ensures) (c .before .before .before .before .before .before .args .ver) (c .before .before .before .before .before .before .args .table) (λ a. (a, (members (c .before .before .before .before .before .before .args .table)))) (c .before .before .taken2 .given .0 .0) (c .before .before .taken2 .given .1) (c .before .before .before .before .take-maker .result .maker) (c .before .before .before .before .before .before .args .table) refl refl
+returns-2 c = one-read noMaker bare (maker .get (unhexes (c .before .before .before .before .before .before .args .info .now))) (c .before .before .before .before .take-maker .result .taken) (c .before .before .before .before .take-maker .result .maker) (c .before .before .before .before .take-maker .ensures) (c .before .before .before .before .before .before .args .ver) (c .before .before .before .before .before .before .args .table) (λ a. (a, (members (c .before .before .before .before .before .before .args .table)))) (c .before .before .taken2 .given .0 .0) (c .before .before .taken2 .given .1) (c .before .before .before .before .take-maker .result .maker) (c .before .before .before .before .before .before .args .table) refl (refl, refl)
 
 pub read-maker-spec : {M : Type 1} → statement M
 read-maker-spec =

@@ -31,7 +31,7 @@ returns : tie.Need-returns
 returns c = subst (Reads (given (c .before .before .before .before .before .before .args .ver) (members (c .before .before .before .before .before .before .args .table)) (tookNothing (members (c .before .before .before .before .before .before .args .table)) (unhexes (c .before .before .before .before .before .before .args .info .now)))) (c .before .before .before .before .before .before .args .table)) (sym (c .not-read .ensures)) (one-refused tt bare (nothing .get (unhexes (c .before .before .before .before .before .before .args .info .now))) (c .before .before .before .before .take-nothing .result) tt (c .before .before .before .before .take-nothing .ensures) (c .before .before .before .before .before .before .args .ver) (c .before .before .before .before .before .before .args .table) (λ a. (noMaker, (members (c .before .before .before .before .before .before .args .table)))) (c .before .before .taken .given .0 .0) (c .before .before .taken .given .1))
 
 returns-2 : tie.Need-returns-2
-returns-2 c = subst (Reads (given (c .before .before .before .before .before .before .args .ver) (members (c .before .before .before .before .before .before .args .table)) (tookNothing (members (c .before .before .before .before .before .before .args .table)) (unhexes (c .before .before .before .before .before .before .args .info .now)))) (c .before .before .before .before .before .before .args .table)) (sym (c .was-read .ensures)) (one-read tt bare (nothing .get (unhexes (c .before .before .before .before .before .before .args .info .now))) (c .before .before .before .before .take-nothing .result) tt (c .before .before .before .before .take-nothing .ensures) (c .before .before .before .before .before .before .args .ver) (c .before .before .before .before .before .before .args .table) (λ a. (noMaker, (members (c .before .before .before .before .before .before .args .table)))) (c .before .before .taken2 .given .0 .0) (c .before .before .taken2 .given .1) noMaker (c .before .before .before .before .before .before .args .table) refl refl)
+returns-2 c = subst (Reads (given (c .before .before .before .before .before .before .args .ver) (members (c .before .before .before .before .before .before .args .table)) (tookNothing (members (c .before .before .before .before .before .before .args .table)) (unhexes (c .before .before .before .before .before .before .args .info .now)))) (c .before .before .before .before .before .before .args .table)) (sym (c .was-read .ensures)) (one-read tt bare (nothing .get (unhexes (c .before .before .before .before .before .before .args .info .now))) (c .before .before .before .before .take-nothing .result) tt (c .before .before .before .before .take-nothing .ensures) (c .before .before .before .before .before .before .args .ver) (c .before .before .before .before .before .before .args .table) (λ a. (noMaker, (members (c .before .before .before .before .before .before .args .table)))) (c .before .before .taken2 .given .0 .0) (c .before .before .taken2 .given .1) noMaker (c .before .before .before .before .before .before .args .table) refl (refl, refl))
 
 pub read-nothing-spec : {M : Type 1} → statement M
 read-nothing-spec =

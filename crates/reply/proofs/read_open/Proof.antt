@@ -18,7 +18,7 @@ was-read-requires : tie.Need-was-read-requires
 was-read-requires c κs = search needs
 
 returns : tie.Need-returns
-returns c = subst (Reads (byCode (members (c .before .before .before .before .args .table)) (c .before .before .before .before .args .question) (wordsOf (c .before .before .before .before .args .heard)) (unhexes (infoAt (c .before .before .before .before .args .heard .lenid) (c .before .before .before .before .args .stretch .now)))) (c .before .before .before .before .args .table)) (sym (c .was-read .ensures)) (record { is = code-other (members (c .before .before .before .before .args .table)) (c .before .before .before .before .args .question) (wordsOf (c .before .before .before .before .args .heard)) (unhexes (infoAt (c .before .before .before .before .args .heard .lenid) (c .before .before .before .before .args .stretch .now))) (c .before .if1 .taken); count = refl })
+returns c = subst (Reads (byCode (members (c .before .before .before .before .args .table)) (c .before .before .before .before .args .question) (wordsOf (c .before .before .before .before .args .heard)) (unhexes (infoAt (c .before .before .before .before .args .heard .lenid) (c .before .before .before .before .args .stretch .now)))) (c .before .before .before .before .args .table)) (sym (c .was-read .ensures)) (record { is = code-other (members (c .before .before .before .before .args .table)) (c .before .before .before .before .args .question) (wordsOf (c .before .before .before .before .args .heard)) (unhexes (infoAt (c .before .before .before .before .args .heard .lenid) (c .before .before .before .before .args .stretch .now))) (c .before .if1 .taken); kept = (refl, refl) })
 
 add-end : tie.Need-add-end
 add-end c = omega (arith, info-there (c .before .before .before .before .args .stretch .now) (wordsOf (c .before .before .before .before .args .heard)) (c .before .before .before .before .pre .0) (members (c .before .before .before .before .args .table)) (c .before .before .before .before .args .question) (c .before .before .before .before .pre .1) .1)

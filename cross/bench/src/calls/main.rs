@@ -1,10 +1,11 @@
 //! Compares calls of the archive with the reference's and with plain C's: the least CPU time of many rounds in turns, in one process.
 
-mod archive;
+mod frames;
 
-use archive::{Frames, Ours, Plain};
 use bench::captures::{framed, module, reply};
 use bench::table;
+use compare::records::linked_table;
+use frames::{Frames, Ours, Plain};
 use reference::seeded::Seeded;
 use reference::{Alarm, Answer, Event, Header, Module, Question, Receiver, Station};
 use std::hint::black_box;
@@ -21,6 +22,12 @@ const GROUP: Question = Question {
     adr: 0x02,
     cid2: 0x42,
     command: 0xFF,
+};
+/// The same for the archive.
+const OUR_GROUP: linked::Question = linked::Question {
+    adr: GROUP.adr,
+    cid2: GROUP.cid2,
+    command: GROUP.command,
 };
 
 /// Work of which one pass is timed; it hands back what it found, so that the ways can be held against each other.
@@ -51,7 +58,7 @@ fn word(header: Header, lenid: usize) -> u64 {
     u64::from(u32::from_be_bytes([ver, adr, cid1, cid2])) << 16 | lenid as u64
 }
 
-fn event_word(event: &archive::Event) -> u64 {
+fn event_word(event: &linked::Event) -> u64 {
     let header = Header {
         ver: event.ver,
         adr: event.adr,
@@ -88,7 +95,7 @@ fn judge_by_reference(stretches: &[Vec<u8>]) -> u64 {
 }
 
 fn step_by<F: Frames>(capture: &[u8], store: &mut [u8]) -> u64 {
-    let mut receiver = archive::Receiver { open: 0, count: 0 };
+    let mut receiver = linked::Receiver { open: 0, count: 0 };
     let mut sum = 0;
     for &byte in capture {
         let stepped = F::step(receiver, store, byte);
@@ -114,7 +121,7 @@ fn step_by_reference(capture: &[u8], store: &mut [u8]) -> u64 {
 }
 
 fn run_by<F: Frames>(capture: &[u8], store: &mut [u8]) -> u64 {
-    let mut receiver = archive::Receiver { open: 0, count: 0 };
+    let mut receiver = linked::Receiver { open: 0, count: 0 };
     let mut sum = 0;
     for mut piece in capture.chunks(PIECE) {
         while !piece.is_empty() {
@@ -155,7 +162,13 @@ fn text_word(length: usize, out: &[u8]) -> u64 {
 
 fn write_by_us(infos: &[Vec<u8>], out: &mut [u8]) -> u64 {
     infos.iter().fold(0, |sum, info| {
-        let written = archive::write_frame(black_box(HEADER), info, out);
+        let Header {
+            ver,
+            adr,
+            cid1,
+            cid2,
+        } = black_box(HEADER);
+        let written = linked::write_frame(ver, adr, cid1, cid2, info, out);
         mixed(sum, text_word(written.length, out))
     })
 }
@@ -245,7 +258,9 @@ fn receiver_case<'a>(name: &str, capture: &'a [u8], ways: [Receive; 3]) -> Case<
 }
 
 fn answer_case(table: &[Module], station: Station, question: &[u8]) -> Case<'static> {
-    let (mut ours, mut theirs) = (table.to_vec(), table.to_vec());
+    let (mut ours, mut theirs) = (linked_table(table), table.to_vec());
+    let Station { ver, maker } = station;
+    let our_station = linked::Station { ver, maker };
     let (asked, heard) = (stretch(question), stretch(question));
     let (mut out, mut other) = (vec![0; 4_112], vec![0; 4_112]);
     Case {
@@ -254,7 +269,7 @@ fn answer_case(table: &[Module], station: Station, question: &[u8]) -> Case<'sta
         stream: false,
         ways: vec![
             Box::new(move || {
-                let answered = archive::answer(&mut ours, station, black_box(&asked), &mut out);
+                let answered = linked::answer(&mut ours, our_station, black_box(&asked), &mut out);
                 text_word(answered.length, &out)
             }),
             Box::new(move || {
@@ -267,16 +282,16 @@ fn answer_case(table: &[Module], station: Station, question: &[u8]) -> Case<'sta
     }
 }
 
-/// What was read of a table, as one number.
-fn table_word(table: &[Module]) -> u64 {
+/// What was read into the last record of a table, as one number: its remaining capacity and its voltage.
+fn table_word<M>(table: &[M], read: impl Fn(&M) -> (u32, u16)) -> u64 {
     table.last().map_or(0, |module| {
-        let analog = &module.analog;
-        u64::from(analog.remaining) << 16 | u64::from(analog.voltage)
+        let (remaining, voltage) = read(module);
+        u64::from(remaining) << 16 | u64::from(voltage)
     })
 }
 
 fn read_case(table: &[Module], answer: &[u8]) -> Case<'static> {
-    let (mut ours, mut theirs) = (table.to_vec(), table.to_vec());
+    let (mut ours, mut theirs) = (linked_table(table), table.to_vec());
     let (first, second) = (stretch(answer), stretch(answer));
     Case {
         name: "read that answer into a table".to_string(),
@@ -284,12 +299,14 @@ fn read_case(table: &[Module], answer: &[u8]) -> Case<'static> {
         stream: false,
         ways: vec![
             Box::new(move || {
-                let reply = archive::read_reply(&mut ours, GROUP, black_box(&first));
-                mixed(u64::from(reply.number), table_word(&ours))
+                let reply = linked::read_reply(&mut ours, OUR_GROUP, black_box(&first));
+                let word = table_word(&ours, |m| (m.analog.remaining, m.analog.voltage));
+                mixed(u64::from(reply.number), word)
             }),
             Box::new(move || {
                 let read = reference::read_reply(&mut theirs, GROUP, black_box(&second));
-                mixed(read.err().map_or(0, u64::from), table_word(&theirs))
+                let word = table_word(&theirs, |m| (m.analog.remaining, m.analog.voltage));
+                mixed(read.err().map_or(0, u64::from), word)
             }),
         ],
     }

@@ -74,7 +74,7 @@ fn number(seeded: &mut Seeded) -> u32 {
 fn state(seeded: &mut Seeded) -> Listing {
     Listing {
         receiver: Receiver {
-            open: seeded.pick(&[0, 1, 1, 2, 0xFF]),
+            open: seeded.pick(&[0, 1, 1, 2, 0x100]),
             count: match seeded.below(4) {
                 0 => seeded.pick(&[0, STORE - 1, STORE, STORE + 1, usize::MAX]),
                 _ => seeded.below(60),

@@ -100,7 +100,7 @@ fn store(seeded: &mut Seeded, length: usize, info: usize) -> Vec<u8> {
     store
 }
 
-const OPEN: [u8; 4] = [0, 1, 2, 0xFF];
+const OPEN: [usize; 4] = [0, 1, 2, 0x100];
 const ROOMS: [usize; 6] = [0, 16, STORE - 1, STORE, STORE + 1, STORE + 900];
 
 /// Every byte at counts around each bound, open or not, in stores around theirs.
