@@ -45,7 +45,7 @@ pub struct Ran {
 // The bytes of a block that is scanned at once: a wide one while waiting, a narrow one where an end is near and in a stretch.
 const WIDE: usize = 512;
 
-const BLOCK: usize = 32;
+const BLOCK: usize = 64;
 
 const HALF: usize = 16;
 
@@ -202,34 +202,34 @@ fn wait_step(store: &[u8], byte: u8) -> Stepped
     }
 }
 
-// One byte while open with a count of characters.
+// One byte while open with a count of characters. The common case first, so that it is compiled without a jump.
 fn open_step(store: &mut [u8], count: usize, byte: u8) -> Stepped
     requires { ⌜ (4110 ≤ length (now store)) × (count ≤ 4110) ⌝ }
     ensures { λ r. ⌜ Steps (Receiver.Open count) (now (store .entry)) byte r (now (store .exit)) ⌝ }
 {
-    if byte == SOI {
-        return Stepped {
-            next: Receiver::Open(0),
-            event: Event::Refused(Refusal::SoiInside),
-        };
-    }
-    if byte == CR {
+    if byte != SOI {
+        if byte != CR {
+            if count != MOST {
+                store[count] = byte;
+                return Stepped {
+                    next: Receiver::Open(count + 1),
+                    event: Event::Nothing,
+                };
+            }
+            return Stepped {
+                next: Receiver::Waiting,
+                event: Event::Refused(Refusal::TooLong),
+            };
+        }
         let event = event_of(frame::judge(&store[..count]));
         return Stepped {
             next: Receiver::Waiting,
             event,
         };
     }
-    if count == MOST {
-        return Stepped {
-            next: Receiver::Waiting,
-            event: Event::Refused(Refusal::TooLong),
-        };
-    }
-    store[count] = byte;
     Stepped {
-        next: Receiver::Open(count + 1),
-        event: Event::Nothing,
+        next: Receiver::Open(0),
+        event: Event::Refused(Refusal::SoiInside),
     }
 }
 
@@ -388,13 +388,18 @@ impl Receiver {
                 event: Event::Refused(Refusal::BufferTooShort),
             };
         }
-        if self.is_beyond() {
-            return Stepped {
-                next: self,
-                event: Event::Refused(Refusal::ReceiverBeyondStore),
-            };
+        match self {
+            Receiver::Waiting => wait_step(store, byte),
+            Receiver::Open(count) => {
+                if MOST < count {
+                    return Stepped {
+                        next: self,
+                        event: Event::Refused(Refusal::ReceiverBeyondStore),
+                    };
+                }
+                open_step(store, count, byte)
+            }
         }
-        self.advance(store, byte)
     }
 
     // A piece of the stream, up to and including the byte that gives an event, or all of it: the same as stepping. 32 and 35 take no byte.
