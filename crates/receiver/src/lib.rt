@@ -42,12 +42,12 @@ pub struct Ran {
     pub held: usize,
 }
 
-// The bytes of a block that is scanned at once: a wide one while waiting, a narrow one where an end is near and in a stretch.
+// The bytes of a block that is scanned at once: a wide one while waiting, then and in a stretch a smaller one, then a narrow one.
 const WIDE: usize = 512;
 
 const BLOCK: usize = 64;
 
-const HALF: usize = 16;
+const NARROW: usize = 16;
 
 // The bytes at the end of a scan, which are stored with no branch on any of them.
 const FEW: usize = 4;
@@ -120,7 +120,7 @@ fn first_soi(s: &[u8], from: usize) -> usize
 }
 
 // The place of the first SOI, or the length. Where frames follow each other it is the first byte; else wide blocks are passed, then
-// narrow ones in the wide one that has it.
+// smaller ones in the wide one that has it.
 fn find_soi(s: &[u8]) -> usize
     ensures { λ r. ⌜ r ≡ before isSoi (now (s .entry)) ⌝ }
 {
@@ -151,13 +151,13 @@ fn pass_plain(s: &[u8], from: usize, width: usize) -> usize
     i
 }
 
-// How many bytes at the start are neither SOI nor CR, counted in fours: block by block, then four by four.
+// How many bytes at the start are neither SOI nor CR, counted in fours: by blocks, by narrow ones, then four by four.
 fn plain(s: &[u8]) -> usize
     ensures { λ r. ⌜ r ≤ before isEnd (now (s .entry)) ⌝ }
 {
     let blocks = pass_plain(s, 0, BLOCK);
-    let halves = pass_plain(s, blocks, HALF);
-    pass_plain(s, halves, FEW)
+    let narrow = pass_plain(s, blocks, NARROW);
+    pass_plain(s, narrow, FEW)
 }
 
 fn event_of(judged: Judged) -> Event
