@@ -45,7 +45,7 @@ pub struct Ran {
 // The bytes of a block that is scanned at once: a wide one while waiting, then and in a stretch a smaller one, then a narrow one.
 const WIDE: usize = 512;
 
-const BLOCK: usize = 64;
+const BLOCK: usize = 32;
 
 const NARROW: usize = 16;
 
