@@ -202,7 +202,7 @@ fn wait_step(store: &[u8], byte: u8) -> Stepped
     }
 }
 
-// One byte while open with a count of characters. The common case first, so that it is compiled without a jump.
+// One byte while open with a count of characters, the common case first.
 fn open_step(store: &mut [u8], count: usize, byte: u8) -> Stepped
     requires { ⌜ (4110 ≤ length (now store)) × (count ≤ 4110) ⌝ }
     ensures { λ r. ⌜ Steps (Receiver.Open count) (now (store .entry)) byte r (now (store .exit)) ⌝ }
