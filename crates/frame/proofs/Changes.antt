@@ -12,6 +12,7 @@ use Rattle.hex.proofs.Laws.{Hexy, hexy-cut, said-range, length-hexes, unhexes-h
 use Rattle.frame.specs.declared.Header.{Header}
 use Rattle.frame.specs.Frame.{lengthOf, sum, chksum, packed, seal, chars, Encodes, Whole}
 use Rattle.frame.specs.Judge.{header, lenid}
+use Rattle.frame.proofs.Steps.{sum-join}
 use Rattle.frame.proofs.Judging.{chars-read, length-fits, chksum-fits, bytes-packed, whole-good, whole-count}
 
 -- ---- a sealed list: characters and their CHKSUM
@@ -22,11 +23,6 @@ tail b = hexes (word (chksum b))
 length-tail : (b : List ℕ) → length (tail b) ≡ 4
 unfolding tail
 length-tail b = length-hexes (word (chksum b))
-
-sum-join : (s t : List ℕ) → sum (s ++ t) ≡ sum s + sum t
-unfolding sum
-sum-join [] t = omega arith
-sum-join (x ∷ s) t = omega (arith, sum-join s t)
 
 -- the last four characters say what the sum is
 tail-sum : (b d : List ℕ) → tail b ≡ tail d → sum b % 65536 ≡ sum d % 65536

@@ -1,10 +1,10 @@
--- What the functions lean on: a turn and the end of the sum, LENGTH within sixteen bits, and the parts of a written frame.
+-- What the functions lean on: a turn, a block and the end of the sum, LENGTH within sixteen bits, and the parts of a written frame.
 use mathlib.Core.Path.{_≡_, sym, ap, _∙_, subst}
 use mathlib.Core.List.{List, [], _∷_, _++_, append-assoc}
 use Prim.Native.Nat.{ℕ, _+_, _-_, _*_, _%_, _≤_, _<_}
 use native.Mathlib.Omega.{arith}
-use lib.ListN.{length, getD, take, drop, length-append, drop-of-length-le}
-use lib.Seq.{take-at}
+use lib.ListN.{length, getD, take, drop, length-append, drop-of-length-le, take-append-drop}
+use lib.Seq.{take-at, drop-drop}
 use Rattle.buffer.specs.Put.{Put, Room}
 use Rattle.buffer.proofs.Lists.{left-at}
 use Rattle.buffer.proofs.Puts.{puts-front, put-then}
@@ -19,9 +19,28 @@ pub sum-turn : (s : List ℕ) (i total : ℕ) → i < length s → (total + sum 
 unfolding sum
 sum-turn s i total h e = let t = ap sum (left-at s i h) in omega arith
 
-pub sum-end : (s : List ℕ) (i total r : ℕ) → length s ≤ i → (total + sum (drop i s)) % 65536 ≡ sum s % 65536 → r < 65536 → (r + total) % 65536 ≡ 0 → r ≡ chksum s
-unfolding sum chksum
-sum-end s i total r h e f z = let t = ap sum (drop-of-length-le s h) in omega arith
+pub sum-left : (s : List ℕ) (i total : ℕ) → length s ≤ i → (total + sum (drop i s)) % 65536 ≡ sum s % 65536 → total < 65536 → total ≡ sum s % 65536
+unfolding sum
+sum-left s i total h e f = let t = ap sum (drop-of-length-le s h) in omega arith
+
+pub sum-join : (s t : List ℕ) → sum (s ++ t) ≡ sum s + sum t
+unfolding sum
+sum-join [] t = omega arith
+sum-join (c ∷ s) t = omega (arith, sum-join s t)
+
+-- a block more: what was added, and what is left
+pub sum-block : (s : List ℕ) (i k total here : ℕ) → here ≡ sum (take k (drop i s)) % 65536 → (total + sum (drop i s)) % 65536 ≡ sum s % 65536
+    → ((total + here) % 65536 + sum (drop (i + k) s)) % 65536 ≡ sum s % 65536
+sum-block s i k total here h e =
+    let cut : sum (drop i s) ≡ sum (take k (drop i s)) + sum (drop (i + k) s) =
+    ap sum (sym (take-append-drop k (drop i s))) ∙ sum-join (take k (drop i s)) (drop k (drop i s)) ∙ ap (λ (l : List ℕ). sum (take k (drop i s)) + sum l) (drop-drop k i s) in
+    omega arith
+
+-- the sum of all, taken from zero
+pub sum-end : (s : List ℕ) (i total here all r : ℕ) → here ≡ sum (drop i s) % 65536 → (total + sum (drop i s)) % 65536 ≡ sum s % 65536 → all ≡ (total + here) % 65536 → r < 65536
+    → (r + all) % 65536 ≡ 0 → r ≡ chksum s
+unfolding chksum
+sum-end s i total here all r h e a f z = omega arith
 
 pub lchksum-small : (n : ℕ) → lchksum n < 16
 unfolding lchksum

@@ -7,7 +7,7 @@ ghost use lib.ListN.{length, take, drop};
 ghost use Rattle.hex.specs.Hex.{hexes, word};
 ghost use Rattle.buffer.specs.Put.{Room, Put};
 ghost use Rattle.buffer.specs.Writing.{Writes};
-ghost use Rattle.frame.specs.Frame.{lchksum, lengthOf, chksum, packed};
+ghost use Rattle.frame.specs.Frame.{lchksum, lengthOf, sum, chksum, packed};
 ghost use Rattle.frame.specs.Judge.{header, Judges};
 ghost use Rattle.frame.specs.Write.{framed};
 use buffer::Written;
@@ -20,6 +20,9 @@ pub const CR: u8 = 0x0D;
 
 // The most characters between them: 16 and the largest LENID.
 pub const MOST: usize = 4110;
+
+// The characters that are added at once.
+const BLOCK: usize = 64;
 
 // The four bytes that a frame starts with.
 pub struct Header {
@@ -50,9 +53,9 @@ fn length_of(lenid: u16) -> u16
     lchksum(low) * 4096 + low
 }
 
-// CHKSUM of characters: their wrapping sum, taken from zero. No early exit, so that the loop is compiled to vector code.
-fn chksum(characters: &[u8]) -> u16
-    ensures { λ r. ⌜ r ≡ chksum (now (characters .entry)) ⌝ }
+// The wrapping sum of characters. No early exit, so that the loop is compiled to vector code.
+fn sum_of(characters: &[u8]) -> u16
+    ensures { λ r. ⌜ r ≡ sum (now (characters .entry)) % 65536 ⌝ }
 {
     let mut total: u16 = 0;
     let mut i: usize = 0;
@@ -60,7 +63,22 @@ fn chksum(characters: &[u8]) -> u16
         total = std::num::wrapping_add_u16(total, characters[i] as u16);
         i += 1;
     }
-    std::num::wrapping_sub_u16(0, total)
+    total
+}
+
+// CHKSUM of characters: their wrapping sum, taken from zero. By blocks, whose bytes the machine adds at once, then what is left.
+fn chksum(characters: &[u8]) -> u16
+    ensures { λ r. ⌜ r ≡ chksum (now (characters .entry)) ⌝ }
+{
+    let mut total: u16 = 0;
+    let mut i: usize = 0;
+    while BLOCK <= characters.len() - i {
+        let e = i + BLOCK;
+        total = std::num::wrapping_add_u16(total, sum_of(&characters[i..e]));
+        i += BLOCK;
+    }
+    let all = std::num::wrapping_add_u16(total, sum_of(&characters[i..]));
+    std::num::wrapping_sub_u16(0, all)
 }
 
 pub fn header_of(stretch: &[u8]) -> Header

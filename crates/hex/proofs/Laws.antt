@@ -1,8 +1,8 @@
 -- Hex both ways: each digit has one character, and bytes are read back from theirs.
-use mathlib.Core.Path.{_≡_, refl, sym, ap, subst}
+use mathlib.Core.Path.{_≡_, refl, sym, ap, ap₂, _∙_, subst}
 use mathlib.Core.Bool.{Bool, true, false, not, cond, _&&_, _||_}
 use mathlib.Core.List.{List, [], _∷_, _++_}
-use Prim.Native.Nat.{ℕ, zero, suc, _+_, _-_, _*_, _/_, _%_, _≤_, _<_}
+use Prim.Native.Nat.{ℕ, zero, suc, _+_, _-_, _*_, _/_, _%_, _≤_, _<_, min}
 use native.Mathlib.Omega.{arith}
 use lib.ListN.{length, getD}
 use lib.Dec.{T, T-not, ltb, leb, eqb, eqb→eq, ltb→lt, lt→ltb, nltb→le, leb→le}
@@ -28,6 +28,33 @@ said-char d h = eqb→eq (said (charOf d)) d (below (λ d. eqb (said (charOf d))
 pub digit-small : (c : ℕ) → digitOf c < 16
 unfolding digitOf
 digit-small c = omega arith
+
+-- how far a byte is from the hex characters, by differences that stop at 0
+unfoldable far : ℕ → ℕ
+far c = min ((c + 208) % 256 - 9) ((c + 191) % 256 - 5)
+
+abbrev bit : Bool → ℕ
+bit true = 1
+bit false = 0
+
+one-bit : (a b : Bool) → bit a ≡ bit b → a ≡ b
+one-bit true true e = refl
+one-bit true false e = absurd (omega arith)
+one-bit false true e = absurd (omega arith)
+one-bit false false e = refl
+
+far-computed : (c : ℕ) → c < 256 → eqb (far c) 0 ≡ isHex c
+unfolding far isHex
+far-computed c h =
+    one-bit (eqb (far c) 0) (isHex c) (eqb→eq (bit (eqb (far c) 0)) (bit (isHex c)) (below (λ c. eqb (bit (eqb (far c) 0)) (bit (isHex c))) 256 tt c h))
+
+-- no distance from the digits or none from the letters
+pub far-hex : (c d l r : ℕ) → c < 256 → d < 256 → l < 256 → (d + 48) % 256 ≡ c → (l + 65) % 256 ≡ c → r ≡ min (d - 9) (l - 5) → eqb r 0 ≡ isHex c
+unfolding far
+far-hex c d l r h hd hl ed el e =
+    let p : d ≡ (c + 208) % 256 = omega arith in
+    let q : l ≡ (c + 191) % 256 = omega arith in
+    ap (λ (x : ℕ). eqb x 0) (e ∙ ap₂ (λ (u v : ℕ). min (u - 9) (v - 5)) p q) ∙ far-computed c h
 
 pub char-range : (d : ℕ) → d < 16 → (48 ≤ charOf d) × (charOf d ≤ 70)
 unfolding charOf

@@ -1,7 +1,7 @@
 // Hex characters, upper case only: what a character says, a digit's character, and bytes and words by their characters.
 
 ghost use mathlib.Core.Path.{_≡_};
-ghost use Prim.Native.Nat.{_+_, _%_, _<_};
+ghost use Prim.Native.Nat.{_+_, _-_, _%_, _<_, min};
 ghost use lib.ListN.{length};
 ghost use Rattle.buffer.specs.Put.{Room, Put};
 ghost use Rattle.hex.specs.Hex.{isHex, digitOf, charOf, byteOf, byteAt, wordAt, allHex, pairOf, hexes, word};
@@ -9,11 +9,27 @@ ghost use Rattle.hex.specs.Hex.{isHex, digitOf, charOf, byteOf, byteAt, 
 // The characters that are judged at once.
 const BLOCK: usize = 64;
 
-// Whether a character is hex.
+// How far a number is above another: 0 where it is not.
+fn above(a: u8, b: u8) -> u8
+    ensures { λ r. ⌜ r ≡ a - b ⌝ }
+{
+    if b < a { a - b } else { 0 }
+}
+
+fn lesser(a: u8, b: u8) -> u8
+    ensures { λ r. ⌜ r ≡ min a b ⌝ }
+{
+    if a < b { a } else { b }
+}
+
+// Whether a character is hex: how far it is from the digits and from the letters, the lesser of both. Of sixteen bytes at once the
+// machine has such differences, and no comparison.
 fn is_hex(c: u8) -> bool
     ensures { λ r. ⌜ r ≡ isHex c ⌝ }
 {
-    ((48 <= c) & (c <= 57)) | ((65 <= c) & (c <= 70))
+    let digit = above(std::num::wrapping_sub_u8(c, 48), 9);
+    let letter = above(std::num::wrapping_sub_u8(c, 65), 5);
+    lesser(digit, letter) == 0
 }
 
 // The digit that a hex character says. No branch: which characters are letters cannot be foreseen.

@@ -177,7 +177,7 @@ fn close(l: Listing, state: State, out: &mut [u8]) {
 }
 
 fn main() {
-    let mut buffer = [0u8; 65536];
+    let mut buffer = [0u8; 262144];
     let mut store = [0u8; 4110];
     let mut out = [0u8; 65536];
     let turn = list_all(&mut buffer, &mut store, &mut out);

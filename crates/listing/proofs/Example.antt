@@ -7,10 +7,10 @@ use Rattle.frame.specs.Frame.{CR, lchksum, sum, chksum}
 use Rattle.frame.specs.Judge.{need, header, lenid, judge}
 use Rattle.receiver.specs.Step.{kind, stepBy, step}
 use Rattle.texts.specs.Text.{decimalIn, decimal, line}
-use Rattle.texts.specs.Block.{frameLines, refusalLines, lines, framesIn, refusalsIn, totals, printed}
+use Rattle.texts.specs.Block.{sixLines, frameLines, refusalLines, lines, framesIn, refusalsIn, totals, printed}
 use Rattle.listing.specs.Stream.{blocksFrom, blocksOf, listingOf}
 
 pub example : listingOf (ascii "~2002464F0000FD98" ++ CR ∷ ascii "~12" ++ CR ∷ [])
     ≡ ascii "at=0\nver=20\nadr=02\ncid1=46\ncid2=4F\ninfo=\nat=18\nrefused=3\nframes=1\nrefusals=1\n"
-unfolding listingOf blocksOf blocksFrom printed lines frameLines refusalLines totals framesIn refusalsIn line decimal decimalIn pairOf charOf step stepBy kind judge need header lenid chksum sum lchksum allHex isHex byteAt wordAt byteOf digitOf
+unfolding listingOf blocksOf blocksFrom printed lines frameLines sixLines refusalLines totals framesIn refusalsIn line decimal decimalIn pairOf charOf step stepBy kind judge need header lenid chksum sum lchksum allHex isHex byteAt wordAt byteOf digitOf
 example = refl

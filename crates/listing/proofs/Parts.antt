@@ -6,7 +6,7 @@ use Prim.Native.Nat.{ℕ, suc, _+_, _-_, _≤_, _<_}
 use native.Mathlib.Nat.{add-zero, zero-add, add-assoc}
 use native.Mathlib.Numerals.{one-add}
 use native.Mathlib.Omega.{arith}
-use lib.ListN.{length, take, drop, length-append, length-take, length-drop}
+use lib.ListN.{length, take, drop, length-append, length-take, length-drop, take-append-drop}
 use lib.Seq.{length-take-le, drop-drop, take-all}
 use lib.Dec.{leb, ltb, ltb→lt, nltb→le}
 use borrow.Author.Tests.{le-leb, lt-leb, lt-ltb, le-ltb}
@@ -15,6 +15,9 @@ use Rattle.buffer.specs.declared.Written.{Written}
 use Rattle.buffer.specs.Writing.{wrote, refused as refusedBy, Left, leaves, writing, Writes}
 use Rattle.buffer.proofs.Lists.{never, by-cond}
 use Rattle.buffer.proofs.Puts.{put-then, put-none, puts-front}
+use Rattle.hex.specs.Hex.{pairOf, hexes}
+use Rattle.frame.specs.declared.Header.{Header}
+use Rattle.frame.specs.Frame.{chars, seal, packed}
 use Rattle.frame.specs.Judge.{Told, nothing, frame, refused, judge}
 use Rattle.frame.proofs.Judging.{judge-accepts}
 use Rattle.receiver.specs.declared.Receiver.{Receiver}
@@ -29,31 +32,39 @@ use Rattle.receiver.proofs.Receive.{Fits, after-fits}
 use Rattle.listing.specs.declared.Listing.{Listing}
 use Rattle.listing.specs.declared.Listed.{Listed}
 use Rattle.listing.specs.declared.Part.{Part as PartOf}
-use Rattle.texts.specs.Block.{Block, blockOf, lines, totals}
-use Rattle.listing.specs.Piece.{left, framesThen, refusalsThen, onward, soiOf, Part, rests, behind, listing, Call, refuses, prints, list, Lists, closing, Inside, turn, lenidOf, Puts}
+use Rattle.texts.specs.Block.{Block, blockOf, frameLines, lines, totals}
+use Rattle.listing.specs.Piece.{left, framesThen, refusalsThen, onward, soiOf, Part, rests, behind, listing, Call, refuses, prints, list, Lists, closing, Inside, turn, Stands, Puts}
 use Rattle.texts.proofs.Texts.{lines-join}
 
--- ---- LENID is never above 4,094
+-- ---- a frame that is told stands in the store
 
-judge-lenid : (c : List ℕ) → lenidOf (judge c) ≤ 4094
-judge-lenid c = go (judge c) refl
+-- the four bytes and INFO of an encoding in front of anything
+encoded-stands : (h : Header) (info d : List ℕ) (n : ℕ) → n ≤ 4094 → Stands (frame h n) (chars h info ++ d)
+unfolding chars seal packed hexes pairOf frameLines
+encoded-stands h info d n few = (few, λ at. refl)
+
+judge-stands : (n : ℕ) (store : List ℕ) → Stands (judge (take n store)) store
+judge-stands n store = go (judge (take n store)) refl
   where
-    go : (t : Told) → judge c ≡ t → lenidOf t ≤ 4094
-    go nothing e = omega arith
-    go (frame h n) e = let f = judge-accepts c h n .0 e in omega (arith, f .1 .short, f .2)
-    go (refused k) e = omega arith
+    go : (t : Told) → judge (take n store) ≡ t → Stands t store
+    go nothing e = tt
+    go (frame h m) e =
+        let f = judge-accepts (take n store) h m .0 e in
+        let whole : chars h (f .0) ++ drop n store ≡ store = ap (λ (c : List ℕ). c ++ drop n store) (sym (f .1 .is)) ∙ take-append-drop n store in
+        subst (Stands (frame h m)) whole (encoded-stands h (f .0) (drop n store) m (omega (arith, f .1 .short, f .2)))
+    go (refused k) e = tt
 
-lenid-by : (k : Kind) (r : Receiver) (store : List ℕ) (b : ℕ) → lenidOf (stepBy k r store b .told) ≤ 4094
+stands-by : (k : Kind) (r : Receiver) (store : List ℕ) (b : ℕ) → Stands (stepBy k r store b .told) (stepBy k r store b .store)
 unfolding stepBy
-lenid-by soi Waiting store b = omega arith
-lenid-by cr Waiting store b = omega arith
-lenid-by other Waiting store b = omega arith
-lenid-by soi (Open n) store b = omega arith
-lenid-by cr (Open n) store b = judge-lenid (take n store)
-lenid-by other (Open n) store b = by-cond (λ (a : After). lenidOf (a .told) ≤ 4094) (ltb n 4110) (λ t. omega arith) (λ t. omega arith)
+stands-by soi Waiting store b = tt
+stands-by cr Waiting store b = tt
+stands-by other Waiting store b = tt
+stands-by soi (Open n) store b = tt
+stands-by cr (Open n) store b = judge-stands n store
+stands-by other (Open n) store b = by-cond (λ (a : After). Stands (a .told) (a .store)) (ltb n 4110) (λ t. tt) (λ t. tt)
 
-step-lenid : (r : Receiver) (store : List ℕ) (b : ℕ) → Fits r store → lenidOf (step r store b .told) ≤ 4094
-step-lenid r store b f = rw (step-within r store b (f .0) (f .1)) (lenid-by (kind b) r store b)
+step-stands : (r : Receiver) (store : List ℕ) (b : ℕ) → Fits r store → Stands (step r store b .told) (step r store b .store)
+step-stands r store b f = rw (step-within r store b (f .0) (f .1)) (stands-by (kind b) r store b)
 
 -- ---- parts, one behind the other
 
@@ -97,7 +108,7 @@ pub record Turned (l : Listing) (store : List ℕ) (room : ℕ) (piece : List �
   pub some : 0 < length piece → 0 < a .taken
   pub fits : Fits (a .next) (a .store)
   pub held : a .held ≤ 4110
-  pub lenid : lenidOf (a .told) ≤ 4094
+  pub stands : Stands (a .told) (a .store)
   pub rest : 4200 ≤ room → listing l store room piece ≡ after-part (turn l a) room piece
 
 -- a byte, and then a run that began with it
@@ -146,7 +157,7 @@ module _ (l : Listing) (store : List ℕ) (room : ℕ) (b : ℕ) (bs : List ℕ)
         some = λ h. omega arith;
         fits = g .fits;
         held = g .held;
-        lenid = g .lenid;
+        stands = g .stands;
         rest = λ h. goes-on n h (stepping (a .next) (a .store) bs) (rw n at (g .rest h));
       }
   turned-by false q g =
@@ -155,7 +166,7 @@ module _ (l : Listing) (store : List ℕ) (room : ℕ) (b : ℕ) (bs : List ℕ)
         some = λ h. omega arith;
         fits = fits-then;
         held = f .1;
-        lenid = subst (λ (x : After). lenidOf (x .told) ≤ 4094) (sym e) (step-lenid (l .receiver) store b f);
+        stands = subst (λ (x : After). Stands (x .told) (x .store)) (sym e) (step-stands (l .receiver) store b f);
         rest = stops-here;
       }
 
@@ -167,7 +178,7 @@ turned [] l store room f =
       some = λ h. omega arith;
       fits = f;
       held = omega arith;
-      lenid = omega arith;
+      stands = tt;
       rest = λ h. ap (λ (o : ℕ). rests (record { receiver = l .receiver; offset = o; frames = l .frames; refusals = l .refusals }) store) (sym (add-zero (l .offset)));
     }
 turned (b ∷ bs) l store room f =

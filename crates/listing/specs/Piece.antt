@@ -16,7 +16,8 @@ use Rattle.receiver.specs.Run.{countOf, Run}
 use Rattle.listing.specs.declared.Listing.{Listing}
 use Rattle.listing.specs.declared.Part.{Part as PartOf}
 use Rattle.listing.specs.declared.Listed.{Listed}
-use Rattle.texts.specs.Block.{Block, blockOf, lines, totals}
+use Rattle.frame.specs.Frame.{infoAt}
+use Rattle.texts.specs.Block.{Block, blockOf, sixLines, frameLines, lines, totals}
 
 abbrev pub fresh : Listing
 fresh = record { receiver = Waiting; offset = 0; frames = 0; refusals = 0 }
@@ -125,11 +126,15 @@ turn l a =
       blocks = blockOf (l .offset + a .taken - (a .held + 2)) (a .told) (a .store);
     }
 
--- a frame's LENID
-abbrev pub lenidOf : Told → ℕ
-lenidOf nothing = 0
-lenidOf (frame h lenid) = lenid
-lenidOf (refused number) = 0
+-- a frame's six lines, of the characters that stand in the store
+abbrev pub storedLines : ℕ → ℕ → List ℕ → List ℕ
+storedLines at lenid store = sixLines at (take 2 store) (take 2 (drop 2 store)) (take 2 (drop 4 store)) (take 2 (drop 6 store)) (infoAt lenid store)
+
+-- a frame that is told stands in the store
+abbrev pub Stands : Told → List ℕ → Type 0
+Stands nothing store = Unit {0}
+Stands (frame h lenid) store = (lenid ≤ 4094) × ((at : ℕ) → storedLines at lenid store ≡ frameLines at h (infoAt lenid store))
+Stands (refused number) store = Unit {0}
 
 -- a part was listed, and its lines put at place at
 pub record Puts (p : Part) (out : List ℕ) (at : ℕ) (answer : PartOf) (store′ out′ : List ℕ) : Type 0 where

@@ -7,13 +7,11 @@ ghost use lib.Dec.{ltb};
 ghost use lib.ListN.{length};
 ghost use Rattle.buffer.specs.Put.{Put};
 ghost use Rattle.buffer.specs.Writing.{Writes};
-ghost use Rattle.frame.specs.Frame.{infoAt};
 ghost use Rattle.receiver.specs.Step.{paper};
 ghost use Rattle.receiver.specs.Run.{countOf, stepping};
-ghost use Rattle.texts.specs.Block.{frameLines, lines, blockOf};
-ghost use Rattle.listing.specs.Piece.{fresh, left, framesThen, refusalsThen, lenidOf, listing, Lists, closing, turn, Puts};
+ghost use Rattle.texts.specs.Block.{lines, blockOf};
+ghost use Rattle.listing.specs.Piece.{fresh, left, framesThen, refusalsThen, storedLines, Stands, listing, Lists, closing, turn, Puts};
 use buffer::Written;
-use frame::Header;
 use frame::MOST;
 use receiver::Event;
 use receiver::Receiver;
@@ -50,30 +48,32 @@ struct Part {
     end: usize,
 }
 
-// Puts the lines of a frame whose INFO stands in the store.
-fn put_stored(
-    out: &mut [u8],
-    at: usize,
-    soi: u32,
-    header: Header,
-    lenid: usize,
-    store: &[u8],
-) -> usize
+// Puts the lines of a frame whose characters stand in the store.
+fn put_stored(out: &mut [u8], at: usize, soi: u32, lenid: usize, store: &[u8]) -> usize
     requires { ⌜ (at + 4200 ≤ length (now out)) × (4110 ≤ length (now store)) × (lenid ≤ 4094) ⌝ }
-    ensures { λ r. ⌜ Put (now (out .entry)) at (frameLines soi header (infoAt lenid (now (store .entry)))) (now (out .exit)) r ⌝ }
+    ensures { λ r. ⌜ Put (now (out .entry)) at (storedLines soi lenid (now (store .entry))) (now (out .exit)) r ⌝ }
 {
     let end = 12 + lenid;
-    texts::put_frame(out, at, soi, header, &store[12..end])
+    texts::put_frame(
+        out,
+        at,
+        soi,
+        &store[0..2],
+        &store[2..4],
+        &store[4..6],
+        &store[6..8],
+        &store[12..end],
+    )
 }
 
 // Puts the lines of an event.
 fn put_event(out: &mut [u8], at: usize, soi: u32, event: Event, store: &[u8]) -> usize
-    requires { ⌜ (at + 4200 ≤ length (now out)) × (4110 ≤ length (now store)) × (lenidOf (paper event) ≤ 4094) ⌝ }
+    requires { ⌜ (at + 4200 ≤ length (now out)) × (4110 ≤ length (now store)) × Stands (paper event) (now store) ⌝ }
     ensures { λ r. ⌜ Put (now (out .entry)) at (lines (blockOf soi (paper event) (now (store .entry)))) (now (out .exit)) r ⌝ }
 {
     match event {
         Event::Nothing => at,
-        Event::Frame(header, lenid) => put_stored(out, at, soi, header, lenid, store),
+        Event::Frame(_, lenid) => put_stored(out, at, soi, lenid, store),
         Event::Refused(refusal) => texts::put_refusal(out, at, soi, refusal.number()),
     }
 }

@@ -151,11 +151,18 @@ fn pass_plain(s: &[u8], from: usize, width: usize) -> usize
     i
 }
 
-// How many bytes at the start are neither SOI nor CR, counted in fours: by blocks, by narrow ones, then four by four.
+// How many bytes at the start are neither SOI nor CR, counted in fours: none where the first four have one, as in noise full of them;
+// else by blocks, by narrow ones, then four by four.
 fn plain(s: &[u8]) -> usize
     ensures { λ r. ⌜ r ≤ before isEnd (now (s .entry)) ⌝ }
 {
-    let blocks = pass_plain(s, 0, BLOCK);
+    if s.len() < FEW {
+        return 0;
+    }
+    if has_end(&s[..FEW]) {
+        return 0;
+    }
+    let blocks = pass_plain(s, FEW, BLOCK);
     let narrow = pass_plain(s, blocks, NARROW);
     pass_plain(s, narrow, FEW)
 }

@@ -9,11 +9,8 @@ use lib.ListN.{length, take, drop, set, length-append}
 use lib.Seq.{take-set-le, append-snoc}
 use Rattle.buffer.specs.Put.{puts, Room, Put}
 use Rattle.buffer.proofs.Puts.{put-then, room-first, room-rest}
-use Rattle.hex.specs.Hex.{pairOf}
-use Rattle.hex.proofs.Laws.{length-pair}
-use Rattle.frame.specs.declared.Header.{Header}
 use Rattle.texts.specs.Text.{AT, VER, ADR, CID1, CID2, INFO, REFUSED, FRAMES, REFUSALS, LF, digit, decimal, digits, line}
-use Rattle.texts.specs.Block.{Block, linesOf, lines, frameLines, refusalLines, totals}
+use Rattle.texts.specs.Block.{Block, linesOf, lines, sixLines, refusalLines, totals}
 use Rattle.texts.proofs.Decimals.{digits-length, decimal-short}
 
 -- ---- digits, the last one first
@@ -71,73 +68,73 @@ module _ {out : List ℕ} {at : ℕ} (key said : List ℕ) (room : Room out at (
 
 -- ---- a frame's six lines
 
-module _ {out : List ℕ} {at : ℕ} (soi : ℕ) (h : Header) (info : List ℕ) (room : Room out at (frameLines soi h info)) where
+module _ {out : List ℕ} {at : ℕ} (soi : ℕ) (ver adr cid1 cid2 info : List ℕ) (room : Room out at (sixLines soi ver adr cid1 cid2 info)) where
   abbrev one : List ℕ
   one = line AT (decimal soi)
 
   abbrev two : List ℕ
-  two = one ++ line VER (pairOf (h .ver))
+  two = one ++ line VER ver
 
   abbrev three : List ℕ
-  three = two ++ line ADR (pairOf (h .adr))
+  three = two ++ line ADR adr
 
   abbrev four : List ℕ
-  four = three ++ line CID1 (pairOf (h .cid1))
+  four = three ++ line CID1 cid1
 
   abbrev five : List ℕ
-  five = four ++ line CID2 (pairOf (h .cid2))
+  five = four ++ line CID2 cid2
 
   room-five : Room out at five
-  unfolding frameLines
+  unfolding sixLines
   room-five = room-first five (line INFO info) room
 
   room-four : Room out at four
-  room-four = room-first four (line CID2 (pairOf (h .cid2))) room-five
+  room-four = room-first four (line CID2 cid2) room-five
 
   room-three : Room out at three
-  room-three = room-first three (line CID1 (pairOf (h .cid1))) room-four
+  room-three = room-first three (line CID1 cid1) room-four
 
   room-two : Room out at two
-  room-two = room-first two (line ADR (pairOf (h .adr))) room-three
+  room-two = room-first two (line ADR adr) room-three
 
   pub room-at : Room out at (line AT (decimal soi))
-  room-at = room-first one (line VER (pairOf (h .ver))) room-two
+  room-at = room-first one (line VER ver) room-two
 
   module _ {m : List ℕ} {a : ℕ} (p : Put out at (line AT (decimal soi)) m a) where
-    pub room-ver : length m ≡ length out → Room m a (line VER (pairOf (h .ver)))
-    room-ver kept = room-rest one (line VER (pairOf (h .ver))) room-two p kept
+    pub room-ver : length m ≡ length out → Room m a (line VER ver)
+    room-ver kept = room-rest one (line VER ver) room-two p kept
 
-    module _ {m′ : List ℕ} {a′ : ℕ} (q : Put m a (line VER (pairOf (h .ver))) m′ a′) where
+    module _ {m′ : List ℕ} {a′ : ℕ} (q : Put m a (line VER ver) m′ a′) where
       put-two : Put out at two m′ a′
       put-two = put-then room-at p q
 
-      pub room-adr : length m′ ≡ length out → Room m′ a′ (line ADR (pairOf (h .adr)))
-      room-adr kept = room-rest two (line ADR (pairOf (h .adr))) room-three put-two kept
+      pub room-adr : length m′ ≡ length out → Room m′ a′ (line ADR adr)
+      room-adr kept = room-rest two (line ADR adr) room-three put-two kept
 
-      module _ {m″ : List ℕ} {a″ : ℕ} (r : Put m′ a′ (line ADR (pairOf (h .adr))) m″ a″) where
+      module _ {m″ : List ℕ} {a″ : ℕ} (r : Put m′ a′ (line ADR adr) m″ a″) where
         put-three : Put out at three m″ a″
         put-three = put-then room-two put-two r
 
-        pub room-cid1 : length m″ ≡ length out → Room m″ a″ (line CID1 (pairOf (h .cid1)))
-        room-cid1 kept = room-rest three (line CID1 (pairOf (h .cid1))) room-four put-three kept
+        pub room-cid1 : length m″ ≡ length out → Room m″ a″ (line CID1 cid1)
+        room-cid1 kept = room-rest three (line CID1 cid1) room-four put-three kept
 
-        module _ {n : List ℕ} {b : ℕ} (s : Put m″ a″ (line CID1 (pairOf (h .cid1))) n b) where
+        module _ {n : List ℕ} {b : ℕ} (s : Put m″ a″ (line CID1 cid1) n b) where
           put-four : Put out at four n b
           put-four = put-then room-three put-three s
 
-          pub room-cid2 : length n ≡ length out → Room n b (line CID2 (pairOf (h .cid2)))
-          room-cid2 kept = room-rest four (line CID2 (pairOf (h .cid2))) room-five put-four kept
+          pub room-cid2 : length n ≡ length out → Room n b (line CID2 cid2)
+          room-cid2 kept = room-rest four (line CID2 cid2) room-five put-four kept
 
-          module _ {n′ : List ℕ} {b′ : ℕ} (t : Put n b (line CID2 (pairOf (h .cid2))) n′ b′) where
+          module _ {n′ : List ℕ} {b′ : ℕ} (t : Put n b (line CID2 cid2) n′ b′) where
             put-five : Put out at five n′ b′
             put-five = put-then room-four put-four t
 
             pub room-info : length n′ ≡ length out → Room n′ b′ (line INFO info)
-            unfolding frameLines
+            unfolding sixLines
             room-info kept = room-rest five (line INFO info) room put-five kept
 
-            pub frame-put : {fin : List ℕ} {end : ℕ} → Put n′ b′ (line INFO info) fin end → Put out at (frameLines soi h info) fin end
-            unfolding frameLines
+            pub frame-put : {fin : List ℕ} {end : ℕ} → Put n′ b′ (line INFO info) fin end → Put out at (sixLines soi ver adr cid1 cid2 info) fin end
+            unfolding sixLines
             frame-put u = put-then room-five put-five u
 
 -- ---- how long the lines are
@@ -146,14 +143,15 @@ length-line : (key said : List ℕ) → length (line key said) ≡ length key + 
 unfolding line
 length-line key said = length-append (key ++ said) (LF ∷ []) ∙ ap (λ (k : ℕ). k + 1) (length-append key said)
 
-pub frame-short : (at : ℕ) (h : Header) (info : List ℕ) → at < 4294967296 → length info ≤ 4094 → length (frameLines at h info) ≤ 4200
-unfolding frameLines
-frame-short at h info small few =
+pub six-short : (at : ℕ) (ver adr cid1 cid2 info : List ℕ) → at < 4294967296 → length ver ≤ 2 → length adr ≤ 2 → length cid1 ≤ 2 → length cid2 ≤ 2 → length info ≤ 4094
+    → length (sixLines at ver adr cid1 cid2 info) ≤ 4200
+unfolding sixLines
+six-short at ver adr cid1 cid2 info small v w x y few =
     let a = line AT (decimal at) in
-    let b = line VER (pairOf (h .ver)) in
-    let c = line ADR (pairOf (h .adr)) in
-    let d = line CID1 (pairOf (h .cid1)) in
-    let e = line CID2 (pairOf (h .cid2)) in
+    let b = line VER ver in
+    let c = line ADR adr in
+    let d = line CID1 cid1 in
+    let e = line CID2 cid2 in
     let f = line INFO info in
     omega (
       arith,
@@ -163,16 +161,12 @@ frame-short at h info small few =
       length-append (a ++ b) c,
       length-append a b,
       length-line AT (decimal at),
-      length-line VER (pairOf (h .ver)),
-      length-line ADR (pairOf (h .adr)),
-      length-line CID1 (pairOf (h .cid1)),
-      length-line CID2 (pairOf (h .cid2)),
+      length-line VER ver,
+      length-line ADR adr,
+      length-line CID1 cid1,
+      length-line CID2 cid2,
       length-line INFO info,
       decimal-short at small,
-      length-pair (h .ver),
-      length-pair (h .adr),
-      length-pair (h .cid1),
-      length-pair (h .cid2),
     )
 
 pub refusal-short : (at number : ℕ) → at < 4294967296 → number < 4294967296 → length (refusalLines at number) ≤ 4200

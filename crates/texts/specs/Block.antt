@@ -13,14 +13,12 @@ pub data Block : Type 0 where
   refusalBlock : ℕ → ℕ → Block
 
 -- `at` and `refused` are decimal, the others are hex; the keys stand in this order
+unfoldable pub sixLines : ℕ → List ℕ → List ℕ → List ℕ → List ℕ → List ℕ → List ℕ
+sixLines at ver adr cid1 cid2 info =
+    line AT (decimal at) ++ line VER ver ++ line ADR adr ++ line CID1 cid1 ++ line CID2 cid2 ++ line INFO info
+
 unfoldable pub frameLines : ℕ → Header → List ℕ → List ℕ
-frameLines at h info =
-    line AT (decimal at)
-    ++ line VER (pairOf (h .ver))
-    ++ line ADR (pairOf (h .adr))
-    ++ line CID1 (pairOf (h .cid1))
-    ++ line CID2 (pairOf (h .cid2))
-    ++ line INFO info
+frameLines at h info = sixLines at (pairOf (h .ver)) (pairOf (h .adr)) (pairOf (h .cid1)) (pairOf (h .cid2)) info
 
 unfoldable pub refusalLines : ℕ → ℕ → List ℕ
 refusalLines at number = line AT (decimal at) ++ line REFUSED (decimal number)

@@ -3,10 +3,8 @@
 ghost use mathlib.Core.Path.{_≡_};
 ghost use lib.ListN.{length};
 ghost use Rattle.buffer.specs.Put.{Room, Put};
-ghost use Rattle.hex.specs.Hex.{pairOf};
 ghost use Rattle.texts.specs.Text.{decimal, digits, line};
-ghost use Rattle.texts.specs.Block.{frameLines, refusalLines, totals};
-use frame::Header;
+ghost use Rattle.texts.specs.Block.{sixLines, refusalLines, totals};
 
 // The keys of the lines.
 pub const AT: [u8; 3] = *b"at=";
@@ -101,16 +99,6 @@ fn put_number_line(out: &mut [u8], at: usize, key: &[u8], n: u32) -> usize
     buffer::put(out, end, LF)
 }
 
-// Puts a line that says a byte in hex.
-fn put_byte_line(out: &mut [u8], at: usize, key: &[u8], b: u8) -> usize
-    requires { ⌜ Room (now out) at (line (now key) (pairOf b)) ⌝ }
-    ensures { λ r. ⌜ Put (now (out .entry)) at (line (now (key .entry)) (pairOf b)) (now (out .exit)) r ⌝ }
-{
-    let said = buffer::put_all(out, at, key);
-    let end = hex::put_byte(out, said, b);
-    buffer::put(out, end, LF)
-}
-
 // Puts a line that says characters.
 fn put_text_line(out: &mut [u8], at: usize, key: &[u8], text: &[u8]) -> usize
     requires { ⌜ Room (now out) at (line (now key) (now text)) ⌝ }
@@ -121,16 +109,25 @@ fn put_text_line(out: &mut [u8], at: usize, key: &[u8], text: &[u8]) -> usize
     buffer::put(out, end, LF)
 }
 
-// Puts a frame's six lines.
-pub fn put_frame(out: &mut [u8], at: usize, soi: u32, header: Header, info: &[u8]) -> usize
-    requires { ⌜ Room (now out) at (frameLines soi header (now info)) ⌝ }
-    ensures { λ r. ⌜ Put (now (out .entry)) at (frameLines soi header (now (info .entry))) (now (out .exit)) r ⌝ }
+// Puts a frame's six lines, its four bytes and INFO given as their characters.
+pub fn put_frame(
+    out: &mut [u8],
+    at: usize,
+    soi: u32,
+    ver: &[u8],
+    adr: &[u8],
+    cid1: &[u8],
+    cid2: &[u8],
+    info: &[u8],
+) -> usize
+    requires { ⌜ Room (now out) at (sixLines soi (now ver) (now adr) (now cid1) (now cid2) (now info)) ⌝ }
+    ensures { λ r. ⌜ Put (now (out .entry)) at (sixLines soi (now (ver .entry)) (now (adr .entry)) (now (cid1 .entry)) (now (cid2 .entry)) (now (info .entry))) (now (out .exit)) r ⌝ }
 {
-    let ver = put_number_line(out, at, &AT, soi);
-    let adr = put_byte_line(out, ver, &VER, header.ver);
-    let cid1 = put_byte_line(out, adr, &ADR, header.adr);
-    let cid2 = put_byte_line(out, cid1, &CID1, header.cid1);
-    let last = put_byte_line(out, cid2, &CID2, header.cid2);
+    let second = put_number_line(out, at, &AT, soi);
+    let third = put_text_line(out, second, &VER, ver);
+    let fourth = put_text_line(out, third, &ADR, adr);
+    let fifth = put_text_line(out, fourth, &CID1, cid1);
+    let last = put_text_line(out, fifth, &CID2, cid2);
     put_text_line(out, last, &INFO, info)
 }
 

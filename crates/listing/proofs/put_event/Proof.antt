@@ -1,10 +1,11 @@
 -- Each arm puts the lines of its event.
 use mathlib.Core.Path.{sym, subst}
-use Prim.Native.Nat.{_-_, _≤_}
+use mathlib.Core.List.{List}
+use Prim.Native.Nat.{ℕ, _-_}
 use native.Mathlib.Omega.{arith}
 use borrow.Author.Needs.{needs}
 use Rattle.texts.proofs.Texts.{refusal-short, lines-one}
-use Rattle.listing.specs.Piece.{lenidOf}
+use Rattle.listing.specs.Piece.{Stands}
 use Rattle.texts.specs.Block.{frameBlock, refusalBlock, lines, blockOf}
 use Rattle.receiver.specs.declared.Event.the-variants.{Frame}
 use Rattle.receiver.specs.declared.Event.{Event}
@@ -25,8 +26,8 @@ enum-known-event c = search needs
 put-stored-requires : tie.Need-put-stored-requires
 put-stored-requires c κs =
     let start = c .before .before .before .before .before .before in
-    let h : lenidOf (paper (Frame (c .before .before .event .given .0 .0) (c .before .before .event .given .0 .1 .0))) ≤ 4094 = rw (c .before .before .event .given .1) at (start .pre .2) in
-    (start .pre .0, start .pre .1, h)
+    let h : Stands (paper (Frame (c .before .before .event .given .0 .0) (c .before .before .event .given .0 .1 .0))) (start .args .store .now) = rw (c .before .before .event .given .1) at (start .pre .2) in
+    (start .pre .0, start .pre .1, h .0)
 
 enum-known-event-2 : tie.Need-enum-known-event-2
 enum-known-event-2 c = search needs
@@ -50,8 +51,12 @@ same-length c = search needs
 
 returns-2 : tie.Need-returns-2
 returns-2 c =
-    let a = c .before .before .before .before .before .before .before .before .before .args in
-    rw (c .before .before .before .before .before .event .given .1, lines-one (frameBlock (a .soi) (c .before .before .before .before .before .event .given .0 .0) (infoAt (c .before .before .before .before .before .event .given .0 .1 .0) (a .store .now)))) (c .before .before .put-stored .ensures)
+    let start = c .before .before .before .before .before .before .before .before .before in
+    let a = start .args in
+    let event = c .before .before .before .before .before .event .given in
+    let h : Stands (paper (Frame (event .0 .0) (event .0 .1 .0))) (a .store .now) = rw (event .1) at (start .pre .2) in
+    rw (event .1, lines-one (frameBlock (a .soi) (event .0 .0) (infoAt (event .0 .1 .0) (a .store .now))))
+    (subst (λ (x : List ℕ). Put (a .out .now) (a .at) x (c .before .before .put-stored .last .0) (c .before .before .put-stored .result)) (h .1 (a .soi)) (c .before .before .put-stored .ensures))
 
 same-length-2 : tie.Need-same-length-2
 same-length-2 c = search needs

@@ -19,7 +19,7 @@ back-requires : tie.Need-back-requires
 back-requires c κs = ran-turned (c .before .before .before .before .before .before .before .before .args .self) (c .before .before .before .before .before .before .before .before .args .store .now) (c .before .before .before .before .before .before .before .before .args .piece .now) (c .before .before .before .before .before .before .before .before .pre .0, c .before .before .before .before .before .before .before .before .pre .1) (c .before .before .before .run .result) (c .before .before .before .run .last .1 .0) (c .before .before .before .run .ensures) .held
 
 put-event-requires : tie.Need-put-event-requires
-put-event-requires c κs = (c .before .before .before .before .before .before .before .before .before .before .before .pre .3, omega (arith, c .before .before .before .before .before .before .before .before .before .before .before .pre .0, c .before .before .before .before .before .before .run .kept .1 .0), ran-turned (c .before .before .before .before .before .before .before .before .before .before .before .args .self) (c .before .before .before .before .before .before .before .before .before .before .before .args .store .now) (c .before .before .before .before .before .before .before .before .before .before .before .args .piece .now) (c .before .before .before .before .before .before .before .before .before .before .before .pre .0, c .before .before .before .before .before .before .before .before .before .before .before .pre .1) (c .before .before .before .before .before .before .run .result) (c .before .before .before .before .before .before .run .last .1 .0) (c .before .before .before .before .before .before .run .ensures) .lenid)
+put-event-requires c κs = (c .before .before .before .before .before .before .before .before .before .before .before .pre .3, omega (arith, c .before .before .before .before .before .before .before .before .before .before .before .pre .0, c .before .before .before .before .before .before .run .kept .1 .0), ran-turned (c .before .before .before .before .before .before .before .before .before .before .before .args .self) (c .before .before .before .before .before .before .before .before .before .before .before .args .store .now) (c .before .before .before .before .before .before .before .before .before .before .before .args .piece .now) (c .before .before .before .before .before .before .before .before .before .before .before .pre .0, c .before .before .before .before .before .before .before .before .before .before .before .pre .1) (c .before .before .before .before .before .before .run .result) (c .before .before .before .before .before .before .run .last .1 .0) (c .before .before .before .before .before .before .run .ensures) .stands)
 
 frames-then-requires : tie.Need-frames-then-requires
 frames-then-requires c κs = search needs
