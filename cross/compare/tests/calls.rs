@@ -6,7 +6,7 @@ use std::process::ExitCode;
 use std::time::Instant;
 
 const SEED: u64 = 1;
-const ROUNDS: usize = 8;
+const ROUNDS: usize = 4;
 const LEAST: u64 = 1_000_000;
 
 fn main() -> ExitCode {
