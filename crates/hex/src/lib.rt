@@ -22,8 +22,8 @@ fn lesser(a: u8, b: u8) -> u8
     if a < b { a } else { b }
 }
 
-// Whether a character is hex: how far it is from the digits and from the letters, the lesser of both. Of sixteen bytes at once the
-// machine has such differences, and no comparison.
+// Whether a character is hex: how far it is from the digits and from the letters, the lesser of both. The machine has such differences
+// of sixteen bytes at once, but no comparison of unsigned ones.
 fn is_hex(c: u8) -> bool
     ensures { λ r. ⌜ r ≡ isHex c ⌝ }
 {

@@ -1,11 +1,10 @@
 -- What was added and what is left make the sum of all.
-use mathlib.Core.Path.{_≡_, ap}
+use mathlib.Core.Path.{_≡_}
 use Prim.Native.Nat.{_+_, _-_, _%_, _<_, _≤_}
 use native.Mathlib.Omega.{arith}
 use lib.ListN.{length, drop}
 use borrow.Author.Needs.{needs}
 use Rattle.frame.proofs.Steps.{sum-turn, sum-left}
-use Rattle.frame.specs.Judge.{need}
 use Rattle.frame.specs.Frame.{sum}
 use Rattle.frame.proofs.sum_of.Statement.{statement}
 use Rattle.frame.proofs.sum_of.Tie as tie
