@@ -7,15 +7,16 @@
  *   2. It is aligned for its type.  Count times size is below 2^63, as for any C object.
  *   3. What a non-const pointer reaches overlaps nothing else that the call is lent; nothing else reads or writes it
  *      during the call, and nothing writes what a const pointer reaches.  Other threads count.
- *   4. Every element is initialised, list places past a count too.  Padding is free, and unspecified after a store: never
- *      compare two records by memcmp.
+ *   4. Every element is initialised, list places past a count and buffers that are only written too.  Padding is free, and
+ *      unspecified after a store: never compare two records by memcmp.
  * There is no other duty: every value of every field is a legal argument, a bad one gets a refusal's number.
  * No function allocates, blocks, keeps a pointer after it returns or has state of its own.  Of libc they call memcpy, memmove and memset.
+ * Measured, not proved: hanuzak_answer and hanuzak_read_reply take 17 KB of stack, the group writers 7, every other at most 4.
  *
  * Numbers of refusals are the paper's.  Frames: 1 too long, 2 SOI inside, 3 too short, 4 not hex, 5 LCHKSUM differs, 6 LENID odd,
  * 7 count is not 16 + LENID, 8 CHKSUM differs.  Calls: 31 the table breaks its rule, 32 the lent buffer is too short,
  * 33 a value can't be encoded, 34 the command asked is not served, 35 the receiver's count is above 4,110.  Replies: 11 to 23.
- * Where a field has no value it is 0.  With a refusal every lent buffer and the table stay as they were, unless said otherwise.
+ * docs/REFUSALS.md has each with what it leaves.  Where a field has no value it is 0.  With a refusal every lent buffer and the table stay as they were, unless said otherwise.
  */
 #ifndef HANUZAK_H
 #define HANUZAK_H
@@ -34,10 +35,14 @@ extern "C" {
 #define HANUZAK_ANSWER 4112  /* the least buffer of an answer */
 #define HANUZAK_LISTING 4200 /* the least buffer of a listing */
 #define HANUZAK_CLOSING 38   /* the least buffer for its totals */
+#define HANUZAK_LIMIT 1073741824 /* the bytes of a stream that are listed */
 
 /* ---- the module record; list places beyond a count are 0 */
 
-/* What 42H carries. */
+/*
+ * What 42H carries.  remaining and total are both at most 65,000, or total is above 65,000 and both are below 2^24: other pairs
+ * can't be encoded.
+ */
 typedef struct hanuzak_analog {
     uint8_t  cell_count;                         /* 1 to 16 */
     int16_t  cells[HANUZAK_CELLS];               /* mV */
@@ -50,7 +55,7 @@ typedef struct hanuzak_analog {
     uint16_t cycles;
 } hanuzak_analog;
 
-/* What 44H carries: alarm codes, and the five status bytes. */
+/* What 44H carries: alarm codes, each 00H, 01H, 02H or F0H, and the five status bytes.  The counts are as in hanuzak_analog. */
 typedef struct hanuzak_alarm {
     uint8_t cell_count;
     uint8_t cells[HANUZAK_CELLS];
@@ -71,7 +76,10 @@ typedef struct hanuzak_limits {
     uint8_t  status;
 } hanuzak_limits;
 
-/* One module.  on and link_fault are bytes 0 or 1; any other breaks the table's rule. */
+/*
+ * One module.  ADR is n + 16m with n from 2 to 13 and m from 0 to 7; n = 2 is the master of its group.  on and link_fault are
+ * bytes 0 or 1.
+ */
 typedef struct hanuzak_module {
     uint8_t        adr;
     uint8_t        on;
@@ -288,7 +296,9 @@ hanuzak_event hanuzak_judge(const uint8_t *stretch, size_t n);
 hanuzak_receiver hanuzak_receiver_new(void);
 
 /*
- * One byte of the stream: the receiver then, and the event.  A frame's INFO is the lenid characters from place 12 of the store on.
+ * One byte of the stream: the receiver then, and the event.  After a frame the store has the bytes between SOI and CR, as
+ * hanuzak_answer and hanuzak_read_reply take them, at its first 16 + lenid places; INFO is the lenid characters from place 12 on.
+ * After 3 to 8 it has them at its first count places, with the count of the receiver that was given: a stand-in answers these too.
  * A character is stored at place count, and nothing else writes to the store.  Refused: 32 for a store below 4,110 bytes, then
  * 35 for a count above 4,110, and the receiver comes back (open as 0 or 1, and count 0 where it waits); 2 for SOI inside, open
  * again with count 0; 1 for a 4,111th character, which is not stored, and 3 to 8 at CR, then waiting.
@@ -297,13 +307,17 @@ hanuzak_stepped hanuzak_step(hanuzak_receiver receiver, uint8_t *store, size_t n
 
 /*
  * The same over the m bytes of a piece, up to and including the byte that gives an event, or all of it with no event: call it
- * again with the rest.  Refused as by hanuzak_step; 32 and 35 take no byte.
+ * again with the rest.  Refused as by hanuzak_step; 32 and 35 take no byte.  The count at a CR is that of the receiver that was
+ * given and taken - 1 more; where that receiver waited, it is the number of bytes between the first SOI of the piece and the CR.
  */
 hanuzak_ran hanuzak_run(hanuzak_receiver receiver, uint8_t *store, size_t n, const uint8_t *piece, size_t m);
 
 /* ---- writers: they return the length, write at the front of out and leave its other bytes; a refusal leaves all of it */
 
-/* A frame from SOI to CR around the n bytes of INFO, 18 + 2n bytes.  Refused: 33 for n above 2,047, then 32. */
+/*
+ * A frame from SOI to CR around the n bytes of INFO, 18 + 2n bytes.  Refused: 33 for n above 2,047, then 32.
+ * A question is one with CID1 46H and the command as CID2; its INFO is the byte Command, with 4FH and 51H none.
+ */
 hanuzak_written hanuzak_write_frame(uint8_t ver, uint8_t adr, uint8_t cid1, uint8_t cid2, const uint8_t *info, size_t n, uint8_t *out, size_t m);
 
 /* INFO of 42H for one module, at most 69 bytes.  Refused: 33 where ADR or a value of analog can't be encoded, then 32. */
@@ -329,7 +343,10 @@ hanuzak_written hanuzak_write_alarm_group(const hanuzak_module *table, size_t n,
 
 /* ---- the table */
 
-/* 0 where the n records keep the table's rule, else 31. */
+/*
+ * 0 where the n records keep the table's rule, else 31: one to 12 records in rising ADR, all with one m, on and link_fault 0 or 1,
+ * and every value of analog and alarm one that can be encoded.  A record of zeros can't: its counts are below 1.
+ */
 uint8_t hanuzak_table(const hanuzak_module *table, size_t n);
 
 /* A copy of table[at], or other where at is n or more. */
@@ -354,7 +371,9 @@ hanuzak_answered hanuzak_answer(hanuzak_module *table, size_t n, hanuzak_station
 
 /*
  * Reads the reply to a question from the m bytes between SOI and CR into the table: the named fields of the asked record, or
- * with Command FFH of each member that is on.  Read: VER, the return code and the flag; a code other than 00H changes no record.
+ * with Command FFH of each member that is on.  Read: VER, the return code and the flag; a code other than 00H changes no record,
+ * nor do replies to 4FH, 51H and 95H.  on and link_fault never change: call hanuzak_switch_off after a 95H that was read with 00H,
+ * or the next reply to FFH is refused with 22.
  * Refused: 31, then 34, then 23 for an ADR that is not in the table, then 1 or 3 to 8 of the frame, then 11 to 22 of the reply;
  * the table stays.
  */
@@ -368,7 +387,7 @@ hanuzak_listing hanuzak_listing_new(void);
 /*
  * Lists the m bytes of a piece: the lines of its frames and refused stretches stand at the front of out, and its other bytes stay.
  * It takes a byte only while 4,200 bytes of out are left, and none from offset 1,073,741,824 of the stream on; call it again with
- * the rest and the emptied buffer.  Refused: 32 for a store of n below 4,110 bytes or a buffer of k below 4,200, then 35 for a
+ * the rest and the emptied buffer, unless next.offset is HANUZAK_LIMIT: then nothing more is taken.  Refused: 32 for a store of n below 4,110 bytes or a buffer of k below 4,200, then 35 for a
  * count above 4,110: no byte is taken, store and buffer stay, and the listing comes back, its receiver as from hanuzak_step.
  */
 hanuzak_listed hanuzak_list(hanuzak_listing listing, uint8_t *store, size_t n, const uint8_t *piece, size_t m, uint8_t *out, size_t k);

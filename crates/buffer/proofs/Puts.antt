@@ -1,11 +1,11 @@
 -- The laws of a text in a buffer, by which every caller goes: a byte stored, a copy, a text after a text (put-then), the front of a buffer.
-use mathlib.Core.Path.{_≡_, refl, sym, ap, _∙_}
+use mathlib.Core.Path.{_≡_, sym, ap, _∙_}
 use mathlib.Core.List.{List, [], _∷_, _++_, append-assoc}
-use Prim.Native.Nat.{ℕ, zero, suc, _+_, _≤_, _<_}
+use Prim.Native.Nat.{ℕ, _+_, _≤_, _<_}
 use native.Mathlib.Nat.{add-assoc, zero-add}
 use native.Mathlib.Omega.{arith}
 use lib.ListN.{length, take, drop, set, length-append}
-use lib.Seq.{sets-eq, paste, take-length, length-take-le, take-at, drop-append-add, drop-drop, paste-zero, take-set-le, append-snoc}
+use lib.Seq.{sets-eq, paste, take-length, length-take-le, take-at, drop-append-add, drop-drop, paste-zero}
 use Rattle.buffer.specs.Put.{puts, Put, Room}
 
 -- one byte stored
@@ -60,3 +60,7 @@ room-rest s t h p kept = record { fits = omega (arith, h .fits, p .end, length-a
 -- nothing put
 pub put-none : (out : List ℕ) (at : ℕ) → Put out at [] out at
 put-none out at = record { end = omega arith; is = sym (puts-nil out at) }
+
+-- two answers that the contract allows are one: the place after the text, and the buffer
+pub put-one : (out : List ℕ) (at : ℕ) (text : List ℕ) (a b : ℕ) (out′ out″ : List ℕ) → Put out at text out′ a → Put out at text out″ b → (a ≡ b) × (out′ ≡ out″)
+put-one out at text a b out′ out″ p q = (p .end ∙ sym (q .end), p .is ∙ sym (q .is))

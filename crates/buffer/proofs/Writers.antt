@@ -1,18 +1,17 @@
 -- The three cases of a writer, and that its contract allows one answer and one buffer only.
-use mathlib.Core.Path.{_≡_, refl, sym, ap, _∙_}
+use mathlib.Core.Path.{_≡_, sym, ap, _∙_}
 use mathlib.Core.Bool.{Bool, true, false}
 use mathlib.Core.List.{List, _++_}
 use Prim.Native.Nat.{ℕ, _≤_, _<_}
 use native.Mathlib.Omega.{arith}
 use lib.ListN.{length, drop}
-use lib.Dec.{leb}
 use borrow.Author.Tests.{le-leb, lt-leb}
 use Rattle.refusal.specs.Number.{number}
 use Rattle.refusal.proofs.Numbers.{number-injective}
 use Rattle.buffer.specs.declared.Written.{Written}
 use Rattle.buffer.specs.declared.Written.the-variants.{Wrote, Refused}
 use Rattle.buffer.specs.Put.{Put}
-use Rattle.buffer.specs.Writing.{Outcome, wrote, refused, paper, Left, leaves, writing, Writes}
+use Rattle.buffer.specs.Writing.{wrote, refused, paper, Left, leaves, writing, Writes}
 use Rattle.buffer.proofs.Lists.{never}
 use Rattle.buffer.proofs.Puts.{puts-front}
 

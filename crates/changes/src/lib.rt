@@ -1,7 +1,7 @@
 // How a reply changes the table's records: the named part of the asked record, or that part of each member that is on.
 
 ghost use mathlib.Core.Path.{_≡_};
-ghost use lib.ListN.{length, take};
+ghost use lib.ListN.{take};
 ghost use Rattle.table.specs.Table.{members};
 ghost use Rattle.changes.specs.Changes.{stored, replaced, fitted, dealt, withAnalog, withAlarm, withLimits, withSerial, withVersion, TableIs};
 use record::Alarm;

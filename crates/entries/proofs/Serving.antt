@@ -8,7 +8,6 @@ use Rattle.standin.specs.declared.Replied.{Replied}
 use Rattle.standin.specs.Answer as Answer
 use Rattle.flat.specs.declared.FlatAnswered.{FlatAnswered}
 use Rattle.flat.specs.Flat.{answeredOf}
-use Rattle.entries.specs.declared.Served.{Served}
 use Rattle.entries.specs.Entries.{Serves}
 
 -- the place that goes off, or the count

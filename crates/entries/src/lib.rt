@@ -1,4 +1,4 @@
-// The entries under the face, over the table by value, with answers as numbers.
+// The entries under the interface, over the table by value, with answers as numbers.
 
 ghost use mathlib.Core.Path.{_≡_};
 ghost use mathlib.Core.Bool.{cond};

@@ -11,7 +11,7 @@ use Rattle.hex.specs.Hex.{hexes, word, byteAt, wordAt, unhexes, Bytes}
 use Rattle.hex.proofs.Laws.{Hexy, hexy-cut, said-range, length-hexes, unhexes-hexes, word-hexes}
 use Rattle.frame.specs.declared.Header.{Header}
 use Rattle.frame.specs.Frame.{lengthOf, sum, chksum, packed, seal, chars, Encodes, Whole}
-use Rattle.frame.specs.Judge.{header, lenid}
+use Rattle.frame.specs.Judge.{lenid}
 use Rattle.frame.proofs.Steps.{sum-join}
 use Rattle.frame.proofs.Judging.{chars-read, length-fits, chksum-fits, bytes-packed, whole-good, whole-count}
 

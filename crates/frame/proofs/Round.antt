@@ -4,7 +4,7 @@ use mathlib.Core.Logic.{_↔_}
 use mathlib.Core.List.{List, [], _∷_, _++_, append-assoc}
 use Prim.Native.Nat.{ℕ, _+_, _-_, _*_, _≤_}
 use native.Mathlib.Omega.{arith}
-use lib.ListN.{length, take, drop, length-append}
+use lib.ListN.{length, take, drop}
 use lib.Seq.{take-at}
 use borrow.Author.Tests.{le-leb}
 use Rattle.refusal.specs.Number.{number}
@@ -20,7 +20,7 @@ use Rattle.frame.specs.declared.Header.{Header}
 use Rattle.frame.specs.declared.Judged.{Judged}
 use Rattle.frame.specs.declared.Judged.the-variants.{Frame, Refused}
 use Rattle.frame.specs.Frame.{SOI, CR, lengthOf, chksum, packed, seal, chars, encode, infoAt, Encodes, Frames}
-use Rattle.frame.specs.Judge.{frame, judge, Judges, paper}
+use Rattle.frame.specs.Judge.{Judges, paper}
 use Rattle.frame.specs.Write.{framed}
 use Rattle.frame.proofs.Judging.{judge-accepts}
 use Rattle.frame.proofs.Steps.{length-chars, length-encode}

@@ -1,5 +1,5 @@
 -- The INFO of a group: flag, FFH, then the records of the members that are on, in rising ADR; with no member on only the flag and FFH.
-use mathlib.Core.Bool.{Bool, true, false, cond}
+use mathlib.Core.Bool.{Bool, cond}
 use mathlib.Core.List.{List, [], _∷_, _++_}
 use Prim.Native.Nat.{ℕ}
 use Rattle.buffer.specs.Writing.{Left, writing}

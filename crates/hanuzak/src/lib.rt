@@ -1,4 +1,4 @@
-// The face of the library: the lent table with its thin functions, and what C calls.
+// The interface of the library: the lent table with its thin functions, and what C calls.
 
 ghost use mathlib.Core.Path.{_≡_};
 ghost use mathlib.Core.Bool.{cond};

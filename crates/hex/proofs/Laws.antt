@@ -1,13 +1,12 @@
 -- Hex both ways: each digit has one character, and bytes are read back from theirs.
 use mathlib.Core.Path.{_≡_, refl, sym, ap, ap₂, _∙_, subst}
-use mathlib.Core.Bool.{Bool, true, false, not, cond, _&&_, _||_}
+use mathlib.Core.Bool.{Bool, true, false, cond, _&&_, _||_}
 use mathlib.Core.List.{List, [], _∷_, _++_}
-use Prim.Native.Nat.{ℕ, zero, suc, _+_, _-_, _*_, _/_, _%_, _≤_, _<_, min}
+use Prim.Native.Nat.{ℕ, _+_, _-_, _*_, _/_, _%_, _≤_, _<_, min}
 use native.Mathlib.Omega.{arith}
-use lib.ListN.{length, getD}
-use lib.Dec.{T, T-not, ltb, leb, eqb, eqb→eq, ltb→lt, lt→ltb, nltb→le, leb→le}
+use lib.ListN.{length}
+use lib.Dec.{T, T-not, ltb, leb, eqb, eqb→eq, ltb→lt, nltb→le, leb→le}
 use mir.Facts.{and-yes, yes-and}
-use borrow.Author.Tests.{leb-true, leb-false, le-leb, lt-leb}
 use Rattle.buffer.proofs.Lists.{by-cond, below}
 use Rattle.hex.specs.Hex.{within, isHex, digitOf, charOf, allHex, pairOf, hexes, byteOf, unhexes, byteAt, wordAt, word, Bytes}
 

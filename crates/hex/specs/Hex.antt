@@ -1,5 +1,5 @@
 -- Hex characters: `0`-`9` and `A`-`F` only, two for each byte, high digit first. Lower case is not hex here.
-use mathlib.Core.Bool.{Bool, true, false, cond, _&&_, _||_}
+use mathlib.Core.Bool.{Bool, true, cond, _&&_, _||_}
 use mathlib.Core.List.{List, [], _∷_}
 use Prim.Native.Nat.{ℕ, suc, _+_, _-_, _*_, _/_, _%_, _<_}
 use Prim.Native.Char.{Char, code}

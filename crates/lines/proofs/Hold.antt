@@ -1,4 +1,4 @@
--- The paper's lines marked P hold: each is computed from the definitions.
+-- The paper's lines hold: each is computed from the definitions.
 use mathlib.Core.Path.{refl}
 use Rattle.hex.specs.Hex.{isHex, digitOf, charOf, allHex, hexes, byteOf, byteAt, wordAt}
 use Rattle.frame.specs.Frame.{lchksum, lengthOf, sum, chksum, packed, seal, chars, encode}
@@ -7,4 +7,4 @@ use Rattle.lines.specs.Lines.{AllHold, lines}
 
 pub lines-hold : AllHold lines
 unfolding isHex digitOf charOf allHex hexes byteOf byteAt wordAt lchksum lengthOf sum chksum packed seal chars encode need header lenid judge
-lines-hold = (refl, (refl, (refl, (refl, (refl, (refl, ((refl, refl), ((refl, refl), ((refl, refl), ((refl, refl), (refl, (refl, (refl, (refl, tt))))))))))))))
+lines-hold = (refl, (refl, (refl, (refl, (refl, (refl, (refl, (refl, ((refl, refl), ((refl, refl), ((refl, refl), ((refl, refl), (refl, (refl, (refl, (refl, tt))))))))))))))))

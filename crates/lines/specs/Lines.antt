@@ -1,4 +1,4 @@
--- The paper's lines marked P: each line says something of the definitions, and one list has them all.
+-- The paper's lines marked P, and the two of source 000 that are no frames: each line says something of the definitions, and one list has them all.
 use mathlib.Core.Path.{_≡_}
 use mathlib.Core.List.{List, [], _∷_, _++_}
 use Prim.Native.Nat.{ℕ, _*_}
@@ -11,7 +11,7 @@ use Rattle.buffer.specs.Text.{ascii}
 use Rattle.hex.specs.Hex.{hexes, word}
 use Rattle.frame.specs.declared.Header.{Header}
 use Rattle.frame.specs.Frame.{CR, lengthOf, chksum, encode}
-use Rattle.frame.specs.Judge.{frame, judge}
+use Rattle.frame.specs.Judge.{frame, refused, judge}
 use Rattle.record.specs.Meanings.{tenthsCelsiusOf, milliampsOf}
 
 pub data Line : Type 0 where
@@ -21,6 +21,8 @@ pub data Line : Type 0 where
   check : String → String → Line
   -- a frame from its tilde on, and its VER, ADR, CID1, CID2 and INFO: accepted, and written so
   sent : String → ℕ → ℕ → ℕ → ℕ → List ℕ → Line
+  -- a stretch from its tilde on that is no frame, and the number of its refusal
+  broken : String → ℕ → Line
   -- the word of a temperature, and tenths of a degree Celsius
   temperature : ℕ → ℤ → Line
   -- the word of a current, and milliamps
@@ -35,6 +37,7 @@ Holds (check characters text) = hexes (word (chksum (ascii characters))) ≡ asc
 Holds (sent text ver adr cid1 cid2 info) =
     (judge (drop 1 (ascii text)) ≡ frame (headerOf ver adr cid1 cid2) (2 * length info))
     × (encode (headerOf ver adr cid1 cid2) info ≡ ascii text ++ CR ∷ [])
+Holds (broken text number) = judge (drop 1 (ascii text)) ≡ refused number
 Holds (temperature w tenths) = tenthsCelsiusOf (toZ w16 w) ≡ tenths
 Holds (current w milliamps) = milliampsOf (toZ w16 w) ≡ milliamps
 
@@ -50,6 +53,8 @@ lines =
     ∷ LENID 4094 "4FFE"
     ∷ check "1203400456ABCEFE" "FC71"
     ∷ check "1203400456ABCDFE" "FC72"
+    ∷ broken "~1203400456ABCEFEFC71" 6
+    ∷ broken "~1203400456ABCDFEFC72" 6
     ∷ sent "~2002464F0000FD98" 0x20 0x02 0x46 0x4F []
     ∷ sent "~210246000000FDB1" 0x21 0x02 0x46 0x00 []
     ∷ sent "~21024642E00202FD32" 0x21 0x02 0x46 0x42 (0x02 ∷ [])

@@ -1,6 +1,7 @@
 pub mod Codes
 pub mod Data
 pub mod Sent
+pub mod Dealt
 pub mod Meet
 pub mod Kept
 pub mod Readings

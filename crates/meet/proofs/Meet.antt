@@ -4,8 +4,8 @@ use mathlib.Core.Bool.{Bool, true, false, cond, not, _&&_}
 use mathlib.Core.List.{List, []}
 use Prim.Native.Nat.{ℕ, _*_, _<_}
 use lib.ListN.{length, drop}
-use lib.Dec.{ltb, eqb}
-use borrow.Author.Tests.{le-ltb, eq-eqb}
+use lib.Dec.{ltb, eqb, eqb→eq}
+use borrow.Author.Tests.{lt-ltb, le-ltb, eq-eqb}
 use Rattle.buffer.proofs.Lists.{never, by-cond}
 use Rattle.hex.specs.Hex.{byteAt, unhexes}
 use Rattle.hex.proofs.Laws.{unhexes-hexes}
@@ -22,6 +22,7 @@ use Rattle.table.specs.declared.Station.{Station}
 use Rattle.table.specs.declared.Table.{Table}
 use Rattle.table.specs.Table.{members, hasMember}
 use Rattle.table.specs.Rule.{rule, keeps}
+use Rattle.changes.proofs.Ones.{table-one}
 use Rattle.command.specs.declared.Kind.{Kind}
 use Rattle.command.specs.Command.{kindOf, formOf, termsOf}
 use Rattle.command.specs.Heard.{Words, words}
@@ -34,6 +35,7 @@ use Rattle.says.specs.Says.{decide}
 use Rattle.standin.specs.Answer as Answer
 use Rattle.standin.specs.Answer.{infoBy, kindAsked, infoFor, replyHeader, written, says, answer, Answers}
 use Rattle.standin.proofs.Replies.{said-on}
+use Rattle.standin.proofs.Members.{member-in}
 use Rattle.gate.specs.declared.Question.{Question}
 use Rattle.reply.specs.declared.Reading.{Reading}
 use Rattle.gate.specs.Gate.{isCode, asks, gate, frameGate}
@@ -42,6 +44,7 @@ use Rattle.reply.proofs.Ways.{way-open}
 use Rattle.meet.specs.Copied.{OfBytes, copied, makerFor, readBack, Alike}
 use Rattle.meet.proofs.Codes.{said-known}
 use Rattle.meet.proofs.Data.{data-read}
+use Rattle.meet.proofs.Dealt.{copied-same}
 use Rattle.meet.proofs.Sent.{adr-small, between-text, reply-encodes}
 
 -- ---- a question that is taken is of a served command
@@ -107,6 +110,14 @@ module _ (st : Station) (bytes : OfBytes st) (ms ms′ : List Module) (kept : ru
       ∙ by-code (eqb code 0) (st .ver) ms′ (took k ms′ adr) (infoBy k st ms adr) (leaves (read (st .ver) 0 0) (makerFor k st) (copied k adr ms ms′)) (leaves (read (st .ver) code 0) noMaker ms′)
       (ap (given (st .ver) ms′) taken)
 
+-- a reply read over the records that it was made of leaves them as they were
+own-back : (k : Kind) (st : Station) (code adr : ℕ) (ms : List Module)
+    → let l = readBack k st code adr ms ms in (l .outcome ≡ read (st .ver) code 0) × (l .modules ≡ ms)
+unfolding readBack
+own-back k st code adr ms =
+    by-cond (λ (l : Left). (l .outcome ≡ read (st .ver) code 0) × (l .modules ≡ ms)) (eqb code 0)
+    (λ z. (ap (λ (c : ℕ). read (st .ver) c 0) (sym (eqb→eq code 0 z)), copied-same k adr ms)) (λ z. (refl, refl))
+
 -- ---- over the contracts of the two
 
 -- a reply comes of a table that keeps its rule, and of a code
@@ -159,4 +170,22 @@ module _ (st : Station) (bytes : OfBytes st) (t : Table) (s out out′ : List �
             ∙ (λ i. readReply (keeps′ i) (members t′) q (p .1 .2 i))
             ∙ reply-is-read st bytes (members t) (members t′) (keeps-parts t (p .0) .1) (words s) (adr-small s) code (p .1 .1) q asked there same-adr same-form alike
             ∙ (λ i. readBack k st code (sym same-adr i) (members t) (members t′)),
+      )
+
+  -- over the table that answered, before a 95H changes it: read back with its code, and nothing of the table is changed
+  pub own-answer : (q : Question) → asks q ≡ true → q .adr ≡ words s .header .adr → formOf (q .cid2) (q .command) ≡ kindAsked (words s)
+      → (code : ℕ) × (decide st (members t) (words s) ≡ Code code)
+      × ((reading : Reading) → Reads (readReply (keeps t) (members t) q (between n out′)) t reading → (paper (reading .outcome) ≡ read (st .ver) code 0) × (reading .table ≡ t))
+  unfolding hasMember
+  own-answer q asked same-adr same-form =
+      let p = parts in
+      let there : hasMember (q .adr) (members t) ≡ true =
+      rw same-adr (lt-ltb _ _ (member-in (words s .header .adr) (members t) (said-on st (members t) (words s) (p .1 .0) (p .1 .1)))) in
+      let a = answer-is-read t (p .0) q asked there same-adr same-form (λ g. refl) in (
+        a .0,
+        a .1,
+        λ reading reads.
+            let e = a .2 reading reads in
+            let o = own-back (kindAsked (words s)) st (a .0) (q .adr) (members t) in
+            (ap (λ (l : Left). l .outcome) e ∙ o .0, table-one t (reading .table) t (reads .kept) (refl, refl) (ap (λ (l : Left). l .modules) e ∙ o .1)),
       )

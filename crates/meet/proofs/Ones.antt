@@ -1,15 +1,12 @@
 -- Two results that the contract of the stand-in, of the gate or of the reply reader allows are equal: an answer says its number and values, and no two answers say the same.
 use mathlib.Core.Path.{_≡_, refl, sym, ap, _∙_}
-use mathlib.Core.List.{List, _++_}
+use mathlib.Core.List.{List}
 use Prim.Native.Nat.{ℕ}
-use lib.ListN.{take, drop, take-append-drop}
 use Rattle.refusal.specs.Number.{number}
 use Rattle.refusal.proofs.Numbers.{number-injective}
 use Rattle.buffer.proofs.Lists.{never}
-use Rattle.record.specs.declared.Module.{Module}
 use Rattle.table.specs.declared.Table.{Table}
-use Rattle.table.specs.Table.{members}
-use Rattle.changes.specs.Changes.{Kept}
+use Rattle.changes.proofs.Ones.{table-one}
 use Rattle.standin.specs.declared.Answered.{Answered}
 use Rattle.standin.specs.declared.Answered.the-variants.{Silence, Reply, Refused}
 use Rattle.standin.specs.declared.Replied.{Replied}
@@ -46,14 +43,6 @@ outcome-injective (Read v c f) (Read v′ c′ f′) e = cc
 outcome-injective (Read v c f) (Declined r) e = never (cc)
 outcome-injective (Declined q) (Read v c f) e = never (cc)
 outcome-injective (Declined q) (Declined r) e = let n : number q ≡ number r = cc in ap Declined (number-injective q r n)
-
--- a table is its members and what stands past them
-table-one : (t a b : Table) → Kept t a → Kept t b → members a ≡ members b → a ≡ b
-unfolding members
-table-one t a b p q e =
-    let whole : (x : Table) → Kept t x → members x ++ drop (t .count) (x .modules) ≡ x .modules = λ (x : Table) (k : Kept t x). ap (λ (n : ℕ). take n (x .modules) ++ drop (t .count) (x .modules)) (k .0) ∙ take-append-drop (t .count) (x .modules) in
-    let same : a .modules ≡ b .modules = sym (whole a p) ∙ (λ i. e i ++ (p .1 ∙ sym (q .1)) i) ∙ whole b q in
-    λ i. record { count = (p .0 ∙ sym (q .0)) i; modules = same i }
 
 -- the reply reader: what it tells, the 32 bytes of 51H, and the table
 pub reading-one : (left : Reads.Left) (t : Table) (a b : Reading) → Reads.Reads left t a → Reads.Reads left t b → a ≡ b

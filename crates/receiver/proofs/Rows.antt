@@ -3,7 +3,7 @@ use mathlib.Core.Path.{_≡_, refl, sym, ap, _∙_}
 use mathlib.Core.Logic.{_≢_}
 use mathlib.Core.Bool.{true, false}
 use mathlib.Core.List.{List}
-use Prim.Native.Nat.{ℕ, suc, _+_, _≤_, _<_}
+use Prim.Native.Nat.{ℕ, _+_, _≤_, _<_}
 use native.Mathlib.Numerals.{add-one}
 use native.Mathlib.Decide.{ℕ-discrete}
 use native.Mathlib.Omega.{arith}
@@ -13,7 +13,7 @@ use Rattle.frame.specs.Frame.{SOI, CR}
 use Rattle.frame.specs.Judge.{Told, nothing, refused, judge}
 use Rattle.receiver.specs.declared.Receiver.{Receiver}
 use Rattle.receiver.specs.declared.Receiver.the-variants.{Waiting, Open}
-use Rattle.receiver.specs.Step.{Kind, soi, cr, other, kind, After, gives, stepBy, beyond, step}
+use Rattle.receiver.specs.Step.{Kind, soi, cr, other, kind, gives, stepBy, beyond, step}
 use Rattle.receiver.specs.Run.{countOf}
 
 pub is-soi : (b : ℕ) → b ≡ SOI → kind b ≡ soi

@@ -1,8 +1,8 @@
 -- A run is stepping: bytes that are only waited over, or only stored, can be passed many at a time.
 use mathlib.Core.Path.{_≡_, refl, sym, ap, _∙_}
-use mathlib.Core.Bool.{Bool, true, false, cond, _||_}
+use mathlib.Core.Bool.{Bool, true, false, cond}
 use mathlib.Core.List.{List, [], _∷_, _++_}
-use Prim.Native.Nat.{ℕ, zero, suc, _+_, _-_, _≤_, _<_}
+use Prim.Native.Nat.{ℕ, suc, _+_, _-_, _≤_, _<_}
 use native.Mathlib.Omega.{arith}
 use native.Mathlib.Numerals.{add-one, one-add}
 use native.Mathlib.Nat.{zero-add, add-zero, add-assoc}
@@ -11,15 +11,15 @@ use lib.Seq.{sets, sets-eq, length-take-le, drop-drop}
 use lib.Dec.{eqb, ltb, ltb→lt}
 use borrow.Author.Tests.{eqb-false, le-ltb, lt-ltb}
 use Rattle.buffer.specs.Put.{Put, puts}
-use Rattle.buffer.proofs.Lists.{never, left-at, by-cond}
+use Rattle.buffer.proofs.Lists.{left-at, by-cond}
 use Rattle.frame.specs.Frame.{SOI, CR}
-use Rattle.frame.specs.Judge.{Told, nothing, refused}
+use Rattle.frame.specs.Judge.{nothing, refused}
 use Rattle.receiver.specs.declared.Receiver.{Receiver}
 use Rattle.receiver.specs.declared.Receiver.the-variants.{Waiting, Open}
 use Rattle.receiver.specs.Scan.{isSoi, isEnd, any, before}
 use Rattle.receiver.specs.Step.{Kind, soi, cr, other, kind, After, gives, stepBy, beyond, step}
 use Rattle.receiver.specs.Run.{isNothing, countOf, Run, ends, stops, later, stepping, run, moved, Passed}
-use Rattle.receiver.proofs.Scans.{or-first, or-second, before-le, before-free}
+use Rattle.receiver.proofs.Scans.{or-first, or-second, before-le}
 use Rattle.receiver.proofs.Rows.{row-idle, row-more, step-within, within}
 
 withTaken : Run → ℕ → Run

@@ -1,7 +1,7 @@
 -- Bytes stored few at a time with no branch on them: each place gets its byte, or what it has.
 use mathlib.Core.Path.{_≡_, refl, sym, ap, _∙_, subst}
 use mathlib.Core.Bool.{Bool, true, false, not, cond, _&&_}
-use mathlib.Core.List.{List, [], _∷_, _++_}
+use mathlib.Core.List.{List, _++_}
 use Prim.Native.Nat.{ℕ, _+_, _-_, _≤_, _<_, zero-le}
 use native.Mathlib.Nat.{add-zero}
 use native.Mathlib.Numerals.{add-one}
@@ -12,7 +12,6 @@ use lib.Seq.{paste, paste-zero, paste-suc, set-getD, length-take-le, take-take, 
 use borrow.Author.Tests.{eqb-true}
 use Rattle.buffer.specs.Put.{Put, puts}
 use Rattle.buffer.proofs.Puts.{put-then}
-use Rattle.buffer.proofs.Lists.{never}
 use Rattle.receiver.specs.declared.Receiver.the-variants.{Open}
 use Rattle.receiver.specs.Scan.{isEnd, any, before}
 use Rattle.receiver.specs.Run.{Stored, Passed}

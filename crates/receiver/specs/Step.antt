@@ -1,10 +1,10 @@
 -- The receiver: waiting, or open with a count of characters, which stand at the front of a lent store. Each byte gives one event.
 use mathlib.Core.Path.{_≡_}
-use mathlib.Core.Bool.{Bool, true, false, not, cond}
+use mathlib.Core.Bool.{Bool, false, cond}
 use mathlib.Core.List.{List}
 use Prim.Native.Nat.{ℕ, suc}
 use lib.ListN.{length, take, set}
-use lib.Dec.{leb, ltb, eqb}
+use lib.Dec.{ltb, eqb}
 use Rattle.refusal.specs.Number.{number}
 use Rattle.frame.specs.Frame.{SOI, CR}
 use Rattle.frame.specs.Judge.{Told, nothing, frame, refused, judge}

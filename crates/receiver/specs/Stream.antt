@@ -39,21 +39,34 @@ unfoldable pub events : Receiver → List ℕ → List ℕ → List Told
 events r store [] = []
 events r store (b ∷ bs) = let a = step r store b in noting (a .told) (events (a .next) (a .store) bs)
 
--- a stream in pieces: the events of each, from where the one before left off
-unfoldable pub eventsOf : Receiver → List ℕ → List (List ℕ) → List Told
-eventsOf r store [] = []
-eventsOf r store (p ∷ ps) = let a = after r store p in events r store p ++ eventsOf (a .next) (a .store) ps
-
 unfoldable pub joined : List (List ℕ) → List ℕ
 joined [] = []
 joined (p ∷ ps) = p ++ joined ps
 
--- runs over a piece, one after the other, each over what the ones before left; most is more than the runs that there are
-unfoldable pub runs : ℕ → Receiver → List ℕ → List ℕ → List Told
-runs zero r store piece = []
+-- what runs over a piece give, one after the other, each over what the ones before left: the events, and the receiver and the store then
+pub record Used : Type 0 where
+  pub events : List Told
+  pub next : Receiver
+  pub store : List ℕ
+
+abbrev pub used : List Told → Receiver → List ℕ → Used
+used ts r store = record { events = ts; next = r; store = store }
+
+-- with an event before
+abbrev pub noted : Told → Used → Used
+noted t u = used (noting t (u .events)) (u .next) (u .store)
+
+-- most is not less than the runs that there are: each takes a byte, where one is left
+unfoldable pub runs : ℕ → Receiver → List ℕ → List ℕ → Used
+runs zero r store piece = used [] r store
 runs (suc most) r store piece =
     let a = run r store piece in
-    noting (a .told) (runs most (a .next) (a .store) (drop (a .taken) piece))
+    noted (a .told) (runs most (a .next) (a .store) (drop (a .taken) piece))
+
+-- a stream in pieces: the events of the runs over each, from where those over the one before left off
+unfoldable pub runsOf : Receiver → List ℕ → List (List ℕ) → List Told
+runsOf r store [] = []
+runsOf r store (p ∷ ps) = let u = runs (length p) r store p in u .events ++ runsOf (u .next) (u .store) ps
 
 -- SOI at i, CR at j, and the characters of a frame between them
 pub record Stretch (stream : List ℕ) (i j : ℕ) (h : Header) (lenid : ℕ) : Type 0 where

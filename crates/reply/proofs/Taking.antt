@@ -1,11 +1,10 @@
 -- From what the INFO readers found to what the reply reader answers, over any kind of data.
 use mathlib.Core.Path.{_≡_, refl, sym, ap, _∙_, subst}
-use mathlib.Core.Bool.{Bool, true, false, cond}
 use mathlib.Core.List.{List, [], _∷_}
 use Prim.Native.Nat.{ℕ, zero, suc, _≤_, _<_}
 use native.Mathlib.Omega.{arith}
 use lib.ListN.{length, take}
-use lib.Dec.{T, eqb}
+use lib.Dec.{T}
 use borrow.Author.Tests.{eq-eqb, ne-eqb}
 use Rattle.refusal.specs.declared.Refusal.{Refusal}
 use Rattle.refusal.specs.declared.Refusal.the-variants.{RecordsDiffer}
@@ -13,7 +12,7 @@ use Rattle.refusal.specs.Number.{number}
 use Rattle.codec.specs.Codec.{Codec, byte}
 use Rattle.codec.specs.Both.{_then_}
 use Rattle.codec.specs.Counted.{padTo}
-use Rattle.codec.specs.Whole.{Told, told, refuse, mapped, mapped-inv, onward-inv, told-value, refuse-told, lead-get}
+use Rattle.codec.specs.Whole.{Told, told, mapped, mapped-inv, onward-inv, told-value, refuse-told, lead-get}
 use Rattle.codec.specs.Many.{many, many-get}
 use Rattle.record.specs.declared.Module.{Module}
 use Rattle.record.specs.declared.Analog.{Analog}
@@ -28,10 +27,9 @@ use Rattle.infos.proofs.Answers.{when-taken, when-refused}
 use Rattle.infos.specs.Groups.{noPlaces, grouped}
 use Rattle.table.specs.declared.Table.{Table}
 use Rattle.table.specs.Table.{members, countOn}
-use Rattle.changes.specs.Changes.{Kept, replaced, dealt, TableIs}
+use Rattle.changes.specs.Changes.{Kept, dealt, TableIs}
 use Rattle.reply.specs.declared.Outcome.the-variants.{Read, Refused}
-use Rattle.reply.specs.declared.Reading.{Reading}
-use Rattle.reply.specs.Read.{Data, forAll, Left, leaves, read, refused, given, Reads}
+use Rattle.reply.specs.Read.{forAll, Left, leaves, read, refused, given, Reads}
 
 -- a refusal leaves the table as it was
 pub not-read : (t : Table) (left : Left) (why : Refusal) → leaves (refused (number why)) noMaker (members t) ≡ left

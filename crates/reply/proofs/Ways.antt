@@ -1,29 +1,27 @@
 -- The reply reader's ways: 31, the gate, another code, the data; a stretch that passes the gate has its INFO.
-use mathlib.Core.Path.{_≡_, refl, sym, ap, _∙_, subst}
+use mathlib.Core.Path.{_≡_, refl, sym, ap, _∙_}
 use mathlib.Core.Bool.{Bool, true, false, cond, not}
 use mathlib.Core.List.{List}
-use Prim.Native.Nat.{ℕ, suc, _+_, _-_, _≤_, _<_}
+use Prim.Native.Nat.{ℕ, _+_, _-_, _≤_, _<_}
 use native.Mathlib.Omega.{arith}
-use lib.ListN.{length, take, drop}
-use lib.Dec.{T, eqb, ltb, nltb→le}
-use borrow.Author.Tests.{eq-eqb, ne-eqb, lt-ltb, le-ltb}
-use Rattle.buffer.proofs.Lists.{never, by-cond}
+use lib.ListN.{length}
+use lib.Dec.{ltb}
+use borrow.Author.Tests.{ne-eqb, le-ltb}
+use Rattle.buffer.proofs.Lists.{by-cond}
 use Rattle.refusal.specs.declared.Refusal.{Refusal}
 use Rattle.refusal.specs.declared.Refusal.the-variants.{TooLong, SoiInside, TooShort, NotHex, LchksumDiffers, LenidOdd, CountDiffers, ChksumDiffers, AdrDiffers, Cid1Differs, CodeUnknown, InfoBesideCode, CountOutOfRange, InfoEnds, BytesLeftOver, ItemsUnknown, CapacitiesBreakRule, AlarmCodeUnknown, CommandDiffers, RecordsDiffer, AdrNotInTable, TableBreaksRule, BufferTooShort, NotEncodable, NotServed, ReceiverBeyondStore}
 use Rattle.refusal.specs.Number.{number}
-use Rattle.hex.specs.Hex.{unhexes, byteAt}
-use Rattle.frame.specs.Frame.{infoAt, Frames}
-use Rattle.frame.specs.Judge.{Told, nothing, frame, refused as judgedRefused, header, lenid, judge, need}
+use Rattle.hex.specs.Hex.{unhexes}
+use Rattle.frame.specs.Frame.{infoAt}
+use Rattle.frame.specs.Judge.{Told, frame, refused as judgedRefused, header, lenid, judge, need}
 use Rattle.frame.proofs.Judging.{judge-accepts, chars-read}
 use Rattle.record.specs.declared.Module.{Module}
 use Rattle.infos.specs.Nothing.{noMaker}
-use Rattle.table.specs.declared.Table.{Table}
-use Rattle.table.specs.Table.{members, hasMember}
+use Rattle.table.specs.Table.{hasMember}
 use Rattle.command.specs.Heard.{Words, words}
 use Rattle.gate.specs.declared.Question.{Question}
-use Rattle.reply.specs.declared.Reading.{Reading}
 use Rattle.gate.specs.Gate.{gate, judgedFirst, asks, frameGate}
-use Rattle.reply.specs.Read.{Left, leaves, read, refused, took, given, byCode, unless, readReply, Reads}
+use Rattle.reply.specs.Read.{leaves, read, refused, byCode, readReply}
 
 -- no refusal has number 0
 pub number-some : (r : Refusal) → number r ≡ 0 → ⊥

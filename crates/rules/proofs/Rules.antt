@@ -1,7 +1,7 @@
 -- The rule, a record after the other.
-use mathlib.Core.Path.{_≡_, refl, sym, ap, _∙_, subst}
+use mathlib.Core.Path.{_≡_, refl, sym, ap}
 use mathlib.Core.Bool.{Bool, true, false, _&&_, and-true}
-use mathlib.Core.List.{List, [], _∷_}
+use mathlib.Core.List.{_∷_}
 use Prim.Native.Nat.{ℕ, _+_, _/_, _≤_, _<_}
 use native.Mathlib.Omega.{arith}
 use lib.ListN.{length, drop, getD, drop-of-length-le}
@@ -14,7 +14,7 @@ use Rattle.record.specs.Alarm.{alarm}
 use Rattle.record.specs.Limits.{limits}
 use Rattle.record.specs.Texts.{serial, version}
 use Rattle.table.specs.declared.Table.{Table}
-use Rattle.table.specs.Table.{blank, members}
+use Rattle.table.specs.Table.{members}
 use Rattle.table.specs.Rule.{encodable, fine, rising, rule, keeps}
 use Rattle.table.proofs.Members.{nil, left-member, member-is, size-count}
 

@@ -1,26 +1,22 @@
 -- What each command's writer leaves is that command's data, and they fit in 816 bytes.
-use mathlib.Core.Path.{_≡_, refl, sym, ap, _∙_, subst}
-use mathlib.Core.Bool.{Bool, true, false, _&&_}
-use mathlib.Core.List.{List, [], _∷_, _++_}
+use mathlib.Core.Path.{_≡_, sym, ap, _∙_, subst}
+use mathlib.Core.Bool.{Bool, true, _&&_}
+use mathlib.Core.List.{List, _++_}
 use Prim.Native.Nat.{ℕ, _+_, _≤_, _<_}
 use native.Mathlib.Omega.{arith}
-use lib.ListN.{length, drop, length-append}
+use lib.ListN.{length, drop}
 use lib.Dec.{T}
 use Rattle.buffer.specs.declared.Written.{Written}
-use Rattle.buffer.specs.Put.{Put}
-use Rattle.buffer.specs.Writing.{Left, leaves, wrote, writing, Writes}
-use Rattle.buffer.proofs.Puts.{puts-front}
+use Rattle.buffer.specs.Writing.{Left, leaves, wrote, Writes}
 use Rattle.buffer.proofs.Writers.{writing-is}
-use Rattle.codec.specs.Codec.{Codec, byte}
-use Rattle.codec.specs.Both.{_then_}
-use Rattle.codec.specs.Whole.{Whole, lead, ended}
+use Rattle.codec.specs.Whole.{Whole}
 use Rattle.record.specs.declared.Module.{Module}
 use Rattle.record.specs.Address.{isAddress}
 use Rattle.record.specs.Analog.{analog}
 use Rattle.record.specs.Alarm.{alarm}
 use Rattle.record.specs.Limits.{limits}
 use Rattle.record.specs.Texts.{serial, version}
-use Rattle.record.specs.Infos.{command, analogInfo, alarmInfo, limitsInfo, serialInfo, versionInfo, analogGroup, alarmGroup}
+use Rattle.record.specs.Infos.{analogInfo, alarmInfo, limitsInfo, serialInfo, versionInfo, analogGroup, alarmGroup}
 use Rattle.writers.specs.Records.{recordWriting}
 use Rattle.writers.proofs.Texts.{led, flag-led, limits-length, serial-text, version-text, row-length}
 use Rattle.table.specs.declared.Station.{Station}

@@ -1,9 +1,9 @@
 -- A member that is on has its ADR, keeps the rule, and its data are short.
-use mathlib.Core.Path.{_≡_, refl, sym, ap, _∙_, subst}
-use mathlib.Core.Bool.{Bool, true, false, cond, _&&_}
-use mathlib.Core.List.{List, [], _∷_, _++_}
+use mathlib.Core.Path.{_≡_, sym, ap, _∙_}
+use mathlib.Core.Bool.{true, false}
+use mathlib.Core.List.{List, [], _∷_}
 use mathlib.Core.Logic.{⊎-elim}
-use Prim.Native.Nat.{ℕ, zero, suc, _+_, _*_, _≤_, _<_}
+use Prim.Native.Nat.{ℕ, suc, _*_, _≤_, _<_}
 use native.Mathlib.Omega.{arith}
 use lib.ListN.{length, getD, length-append, List·getD-eq-default}
 use lib.Dec.{leb, eqb, eqb→eq}
@@ -20,9 +20,9 @@ use Rattle.analog_writer.proofs.Whole as A
 use Rattle.alarm_writer.proofs.Lists.{format-parts}
 use Rattle.alarm_writer.proofs.Whole as R
 use Rattle.table.specs.Table.{isOn, blank, placeOf, memberAt}
-use Rattle.table.specs.Rule.{fine, rising, rule}
+use Rattle.table.specs.Rule.{rising, rule}
 use Rattle.rules.proofs.Fine.{Fine, fine-parts, rising-parts, rule-parts, record-fine}
-use Rattle.groups.specs.Groups.{textOn, textOfAll, analogText, alarmText}
+use Rattle.groups.specs.Groups.{textOn, textOfAll}
 
 -- ---- the member with an ADR
 

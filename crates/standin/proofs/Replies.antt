@@ -1,8 +1,8 @@
 -- From what the frame writer leaves to the stand-in's reply, and what a code tells of the member asked.
-use mathlib.Core.Path.{_≡_, refl, sym, ap, _∙_, subst}
-use mathlib.Core.Bool.{Bool, true, false, cond, not, _&&_, _||_}
-use mathlib.Core.List.{List, [], _∷_, _++_}
-use Prim.Native.Nat.{ℕ, _+_, _*_, _≤_, _<_}
+use mathlib.Core.Path.{_≡_, refl, sym, ap, _∙_}
+use mathlib.Core.Bool.{Bool, true, false, cond, not, _||_}
+use mathlib.Core.List.{List, [], _++_}
+use Prim.Native.Nat.{ℕ, _+_, _≤_, _<_}
 use native.Mathlib.Omega.{arith}
 use lib.ListN.{length, take, drop}
 use lib.Seq.{take-at}
@@ -10,7 +10,7 @@ use lib.Dec.{eqb, leb}
 use borrow.Author.Tests.{le-leb, lt-ltb, le-ltb, eq-eqb, ne-eqb, not-false}
 use Rattle.buffer.specs.declared.Written.{Written}
 use Rattle.buffer.specs.Put.{Put}
-use Rattle.buffer.specs.Writing.{Outcome, wrote, refused, paper, lengthOf, Writes}
+use Rattle.buffer.specs.Writing.{wrote, paper, lengthOf, Writes}
 use Rattle.buffer.specs.Writing as buffer
 use Rattle.buffer.proofs.Lists.{never}
 use Rattle.buffer.proofs.Puts.{puts-front}

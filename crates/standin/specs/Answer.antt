@@ -1,7 +1,7 @@
 -- The stand-in's answer: call refusals 32 and 31, silence, or a reply from SOI to CR; an accepted 95H switches its module off.
 use mathlib.Core.Path.{_≡_}
-use mathlib.Core.Bool.{Bool, true, false, cond}
-use mathlib.Core.List.{List, [], _∷_, _++_}
+use mathlib.Core.Bool.{Bool, cond}
+use mathlib.Core.List.{List, [], _++_}
 use Prim.Native.Nat.{ℕ}
 use lib.ListN.{length, drop, getD, set}
 use lib.Dec.{ltb, eqb}

@@ -2,7 +2,7 @@
 
 ghost use mathlib.Core.Path.{_≡_};
 ghost use lib.ListN.{length};
-ghost use Rattle.table.specs.Table.{isOn, blank, members, placeOf, hasMember, memberAt, anyFault, countOn, oneIf, isMaster};
+ghost use Rattle.table.specs.Table.{blank, members, placeOf, hasMember, memberAt, anyFault, countOn, oneIf, isMaster};
 use record::Alarm;
 use record::Analog;
 use record::Limits;

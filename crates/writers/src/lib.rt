@@ -1,6 +1,5 @@
 // Writers of the INFO that 92H, 93H and 96H carry, as bytes with Command = ADR in front, and the parts that every record writer puts.
 
-ghost use mathlib.Core.Path.{_≡_};
 ghost use Rattle.buffer.specs.Put.{Room, Put};
 ghost use Rattle.buffer.specs.Writing.{Writes};
 ghost use Rattle.codec.specs.Numbers.{word, signed};

@@ -32,7 +32,11 @@ zero-alarm-requires : tie.Need-zero-alarm-requires Inv-loop μ-loop
 zero-alarm-requires c κs = search needs
 
 loop-holds : tie.Need-loop-holds Inv-loop μ-loop
-loop-holds c = subst (λ (z : Alarm). Listed alarm some-alarm (unhexes (c .before .before .before .args .info .now)) noAlarm 12 (c .before .before .before .args .from) (replicate 12 z) 0 (c .before .before .before .args .from)) (sym (c .zero-alarm .ensures)) (listed-none alarm some-alarm (unhexes (c .before .before .before .args .info .now)) noAlarm 12 (c .before .before .before .args .from))
+loop-holds c =
+    let start = c .before .before .before in
+    let info = start .args .info .now in
+    let from = start .args .from in
+    subst (λ (z : Alarm). Listed alarm some-alarm (unhexes info) noAlarm 12 from (replicate 12 z) 0 from) (sym (c .zero-alarm .ensures)) (listed-none alarm some-alarm (unhexes info) noAlarm 12 from)
 
 no-alarms-requires : tie.Need-no-alarms-requires Inv-loop μ-loop
 no-alarms-requires c κs = search needs
@@ -40,9 +44,13 @@ no-alarms-requires c κs = search needs
 returns : tie.Need-returns Inv-loop μ-loop
 unfolding records
 returns c =
-    let h : c .before .before .before .loop .at < length (unhexes (c .before .before .before .before .before .before .before .args .info .now)) = omega (arith, c .before .before .before .before .before .byte-count .ensures) in
+    let start = c .before .before .before .before .before .before .before in
+    let info = start .args .info .now in
+    let byte-count = c .before .before .before .before .before .byte-count in
+    let loop = c .before .before .before .loop in
+    let h : loop .at < length (unhexes info) = omega (arith, byte-count .ensures) in
     ap (λ (x : AlarmsTaken). paper (x .taken) (x .count, x .alarms)) (c .no-alarms .ensures)
-    ∙ sym (ap (taken (noPlaces noAlarm) (λ (l : List Alarm). (c .before .before .before .before .before .before .before .args .flag, places noAlarm l))) (listed-over alarm some-alarm (unhexes (c .before .before .before .before .before .before .before .args .info .now)) noAlarm 12 (c .before .before .before .before .before .before .before .args .from) (c .before .before .before .loop .inv) h (omega arith)))
+    ∙ sym (ap (taken (noPlaces noAlarm) (λ (l : List Alarm). (start .args .flag, places noAlarm l))) (listed-over alarm some-alarm (unhexes info) noAlarm 12 (start .args .from) (loop .inv) h (omega arith)))
 
 read-alarm-requires : tie.Need-read-alarm-requires Inv-loop μ-loop
 read-alarm-requires c κs = search needs
@@ -56,9 +64,14 @@ no-alarms-requires-2 c κs = search needs
 returns-2 : tie.Need-returns-2 Inv-loop μ-loop
 unfolding records
 returns-2 c =
-    let h : c .before .before .before .before .before .before .before .loop .at < length (unhexes (c .before .before .before .before .before .before .before .before .before .before .before .args .info .now)) = omega (arith, c .before .before .before .before .before .before .before .before .before .byte-count .ensures) in
+    let start = c .before .before .before .before .before .before .before .before .before .before .before in
+    let info = start .args .info .now in
+    let byte-count = c .before .before .before .before .before .before .before .before .before .byte-count in
+    let loop = c .before .before .before .before .before .before .before .loop in
+    let read-alarm = c .before .before .before .before .read-alarm in
+    let h : loop .at < length (unhexes info) = omega (arith, byte-count .ensures) in
     ap (λ (x : AlarmsTaken). paper (x .taken) (x .count, x .alarms)) (c .no-alarms2 .ensures)
-    ∙ sym (ap (taken (noPlaces noAlarm) (λ (l : List Alarm). (c .before .before .before .before .before .before .before .before .before .before .before .args .flag, places noAlarm l))) (listed-stop alarm some-alarm (unhexes (c .before .before .before .before .before .before .before .before .before .before .before .args .info .now)) noAlarm 12 (c .before .before .before .before .before .before .before .before .before .before .before .args .from) (c .before .before .before .before .before .before .before .loop .inv) h (omega arith) (part-stopped alarm noAlarm (unhexes (c .before .before .before .before .before .before .before .before .before .before .before .args .info .now)) (c .before .before .before .before .before .before .before .loop .at) (c .before .before .before .before .read-alarm .result .reading) (c .before .before .before .before .read-alarm .result .alarm) (c .before .before .before .before .read-alarm .ensures) (c .before .before .reading .given .1))))
+    ∙ sym (ap (taken (noPlaces noAlarm) (λ (l : List Alarm). (start .args .flag, places noAlarm l))) (listed-stop alarm some-alarm (unhexes info) noAlarm 12 (start .args .from) (loop .inv) h (omega arith) (part-stopped alarm noAlarm (unhexes info) (loop .at) (read-alarm .result .reading) (read-alarm .result .alarm) (read-alarm .ensures) (c .before .before .reading .given .1))))
 
 enum-known-reading-2 : tie.Need-enum-known-reading-2 Inv-loop μ-loop
 enum-known-reading-2 c = search needs
@@ -74,21 +87,35 @@ add-count c = search needs
 
 loop-less : tie.Need-loop-less Inv-loop μ-loop
 loop-less c =
-    let h : c .before .before .before .before .before .before .before .loop .at < length (unhexes (c .before .before .before .before .before .before .before .before .before .before .before .args .info .now)) = omega (arith, c .before .before .before .before .before .before .before .before .before .byte-count .ensures) in
-    let w = part-went alarm noAlarm (unhexes (c .before .before .before .before .before .before .before .before .before .before .before .args .info .now)) (c .before .before .before .before .before .before .before .loop .at) (c .before .before .before .before .read-alarm .result .reading) (c .before .before .before .before .read-alarm .result .alarm) (c .before .before .before .before .read-alarm .ensures) (bytes-unhexes (c .before .before .before .before .before .before .before .before .before .before .before .args .info .now)) (c .before .before .reading2 .given .1) in
-    omega (arith, moves-on alarm some-alarm (unhexes (c .before .before .before .before .before .before .before .before .before .before .before .args .info .now)) (c .before .before .before .before .before .before .before .loop .at) h (bytes-unhexes (c .before .before .before .before .before .before .before .before .before .before .before .args .info .now)) (c .before .before .reading2 .given .0 .0) (w .get))
+    let start = c .before .before .before .before .before .before .before .before .before .before .before in
+    let info = start .args .info .now in
+    let byte-count = c .before .before .before .before .before .before .before .before .before .byte-count in
+    let loop = c .before .before .before .before .before .before .before .loop in
+    let read-alarm = c .before .before .before .before .read-alarm in
+    let h : loop .at < length (unhexes info) = omega (arith, byte-count .ensures) in
+    let w = part-went alarm noAlarm (unhexes info) (loop .at) (read-alarm .result .reading) (read-alarm .result .alarm) (read-alarm .ensures) (bytes-unhexes info) (c .before .before .reading2 .given .1) in
+    omega (arith, moves-on alarm some-alarm (unhexes info) (loop .at) h (bytes-unhexes info) (c .before .before .reading2 .given .0 .0) (w .get))
 
 loop-again : tie.Need-loop-again Inv-loop μ-loop
 loop-again c =
-    let h : c .before .before .before .before .before .before .before .loop .at < length (unhexes (c .before .before .before .before .before .before .before .before .before .before .before .args .info .now)) = omega (arith, c .before .before .before .before .before .before .before .before .before .byte-count .ensures) in
-    let w = part-went alarm noAlarm (unhexes (c .before .before .before .before .before .before .before .before .before .before .before .args .info .now)) (c .before .before .before .before .before .before .before .loop .at) (c .before .before .before .before .read-alarm .result .reading) (c .before .before .before .before .read-alarm .result .alarm) (c .before .before .before .before .read-alarm .ensures) (bytes-unhexes (c .before .before .before .before .before .before .before .before .before .before .before .args .info .now)) (c .before .before .reading2 .given .1) in
-    listed-more alarm some-alarm (unhexes (c .before .before .before .before .before .before .before .before .before .before .before .args .info .now)) noAlarm 12 (c .before .before .before .before .before .before .before .before .before .before .before .args .from) (c .before .before .before .before .before .before .before .loop .inv) h (omega arith) (w .get)
+    let start = c .before .before .before .before .before .before .before .before .before .before .before in
+    let info = start .args .info .now in
+    let byte-count = c .before .before .before .before .before .before .before .before .before .byte-count in
+    let loop = c .before .before .before .before .before .before .before .loop in
+    let read-alarm = c .before .before .before .before .read-alarm in
+    let h : loop .at < length (unhexes info) = omega (arith, byte-count .ensures) in
+    let w = part-went alarm noAlarm (unhexes info) (loop .at) (read-alarm .result .reading) (read-alarm .result .alarm) (read-alarm .ensures) (bytes-unhexes info) (c .before .before .reading2 .given .1) in
+    listed-more alarm some-alarm (unhexes info) noAlarm 12 (start .args .from) (loop .inv) h (omega arith) (w .get)
 
 returns-3 : tie.Need-returns-3 Inv-loop μ-loop
 unfolding records
 returns-3 c =
-    ap (took (c .before .before .before .before .before .args .flag)) (listed-places alarm some-alarm (unhexes (c .before .before .before .before .before .args .info .now)) noAlarm 12 (c .before .before .before .before .before .args .from) (c .before .loop .inv))
-    ∙ sym (ap (taken (noPlaces noAlarm) (λ (l : List Alarm). (c .before .before .before .before .before .args .flag, places noAlarm l))) (listed-end alarm some-alarm (unhexes (c .before .before .before .before .before .args .info .now)) noAlarm 12 (c .before .before .before .before .before .args .from) (c .before .loop .inv) (omega (arith, c .before .before .before .byte-count .ensures))))
+    let start = c .before .before .before .before .before in
+    let flag = start .args .flag in
+    let info = start .args .info .now in
+    let from = start .args .from in
+    ap (took flag) (listed-places alarm some-alarm (unhexes info) noAlarm 12 from (c .before .loop .inv))
+    ∙ sym (ap (taken (noPlaces noAlarm) (λ (l : List Alarm). (flag, places noAlarm l))) (listed-end alarm some-alarm (unhexes info) noAlarm 12 from (c .before .loop .inv) (omega (arith, c .before .before .before .byte-count .ensures))))
 
 pub read-alarms-spec : {M : Type 1} → statement M
 read-alarms-spec =

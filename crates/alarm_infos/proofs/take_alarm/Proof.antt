@@ -51,33 +51,57 @@ no-alarm-requires-3 c κs = search needs
 returns : tie.Need-returns
 unfolding alarmInfo
 returns c =
-    let p = part-went (byte then command (c .before .before .before .before .before .before .before .before .before .before .before .before .args .adr)) (0, (c .before .before .before .before .before .before .before .before .before .before .before .before .args .adr)) (unhexes (c .before .before .before .before .before .before .before .before .before .before .before .before .args .info .now)) 0 (c .before .before .before .before .before .before .before .before .before .before .read-front .result .reading) (c .before .before .before .before .before .before .before .before .before .before .read-front .result .flag, (c .before .before .before .before .before .before .before .before .before .before .before .before .args .adr)) (c .before .before .before .before .before .before .before .before .before .before .read-front .ensures) (bytes-unhexes (c .before .before .before .before .before .before .before .before .before .before .before .before .args .info .now)) (c .before .before .before .before .before .before .before .before .reading12 .given .1) in
-    let q = part-went alarm noAlarm (unhexes (c .before .before .before .before .before .before .before .before .before .before .before .before .args .info .now)) (c .before .before .before .before .before .before .before .before .reading12 .given .0 .0) (c .before .before .before .before .before .before .read-alarm .result .reading) (c .before .before .before .before .before .before .read-alarm .result .alarm) (c .before .before .before .before .before .before .read-alarm .ensures) (bytes-unhexes (c .before .before .before .before .before .before .before .before .before .before .before .before .args .info .now)) (c .before .before .before .before .reading22 .given .1) in
+    let start = c .before .before .before .before .before .before .before .before .before .before .before .before in
+    let adr = start .args .adr in
+    let info = start .args .info .now in
+    let read-front = c .before .before .before .before .before .before .before .before .before .before .read-front in
+    let reading12 = c .before .before .before .before .before .before .before .before .reading12 in
+    let read-alarm = c .before .before .before .before .before .before .read-alarm in
+    let reading22 = c .before .before .before .before .reading22 in
+    let p = part-went (byte then command adr) (0, adr) (unhexes info) 0 (read-front .result .reading) (read-front .result .flag, adr) (read-front .ensures) (bytes-unhexes info) (reading12 .given .1) in
+    let q = part-went alarm noAlarm (unhexes info) (reading12 .given .0 .0) (read-alarm .result .reading) (read-alarm .result .alarm) (read-alarm .ensures) (bytes-unhexes info) (reading22 .given .1) in
     ap (λ (x : AlarmTaken). paper (x .taken) (x .alarm)) (c .no-alarm3 .ensures)
-    ∙ left-over noAlarm (λ (b : Alarm). flagged ((c .before .before .before .before .before .before .before .before .before .before .read-front .result .flag, (c .before .before .before .before .before .before .before .before .before .before .before .before .args .adr)), b)) alarm (unhexes (c .before .before .before .before .before .before .before .before .before .before .before .before .args .info .now)) (c .before .before .before .before .before .before .before .before .reading12 .given .0 .0) (c .before .before .before .before .reading22 .given .0 .0) (q .get) (omega (arith, c .before .before .byte-count .ensures))
-    ∙ first-read noAlarm flagged (byte then command (c .before .before .before .before .before .before .before .before .before .before .before .before .args .adr)) (λ x. ended alarm) (unhexes (c .before .before .before .before .before .before .before .before .before .before .before .before .args .info .now)) (p .get)
+    ∙ left-over noAlarm (λ (b : Alarm). flagged ((read-front .result .flag, adr), b)) alarm (unhexes info) (reading12 .given .0 .0) (reading22 .given .0 .0) (q .get) (omega (arith, c .before .before .byte-count .ensures))
+    ∙ first-read noAlarm flagged (byte then command adr) (λ x. ended alarm) (unhexes info) (p .get)
 
 returns-2 : tie.Need-returns-2
 unfolding alarmInfo
 returns-2 c =
+    let start = c .before .before .before .before .before .before in
+    let adr = start .args .adr in
+    let info = start .args .info .now in
+    let read-front = c .before .before .before .before .read-front in
     ap (λ (x : AlarmTaken). paper (x .taken) (x .alarm)) (c .no-alarm .ensures)
-    ∙ first-refused noAlarm flagged (byte then command (c .before .before .before .before .before .before .args .adr)) (λ x. ended alarm) (unhexes (c .before .before .before .before .before .before .args .info .now)) (part-stopped (byte then command (c .before .before .before .before .before .before .args .adr)) (0, (c .before .before .before .before .before .before .args .adr)) (unhexes (c .before .before .before .before .before .before .args .info .now)) 0 (c .before .before .before .before .read-front .result .reading) (c .before .before .before .before .read-front .result .flag, (c .before .before .before .before .before .before .args .adr)) (c .before .before .before .before .read-front .ensures) (c .before .before .reading1 .given .1))
+    ∙ first-refused noAlarm flagged (byte then command adr) (λ x. ended alarm) (unhexes info) (part-stopped (byte then command adr) (0, adr) (unhexes info) 0 (read-front .result .reading) (read-front .result .flag, adr) (read-front .ensures) (c .before .before .reading1 .given .1))
 
 returns-3 : tie.Need-returns-3
 unfolding alarmInfo
 returns-3 c =
-    let p = part-went (byte then command (c .before .before .before .before .before .before .before .before .before .before .args .adr)) (0, (c .before .before .before .before .before .before .before .before .before .before .args .adr)) (unhexes (c .before .before .before .before .before .before .before .before .before .before .args .info .now)) 0 (c .before .before .before .before .before .before .before .before .read-front .result .reading) (c .before .before .before .before .before .before .before .before .read-front .result .flag, (c .before .before .before .before .before .before .before .before .before .before .args .adr)) (c .before .before .before .before .before .before .before .before .read-front .ensures) (bytes-unhexes (c .before .before .before .before .before .before .before .before .before .before .args .info .now)) (c .before .before .before .before .before .before .reading12 .given .1) in
+    let start = c .before .before .before .before .before .before .before .before .before .before in
+    let adr = start .args .adr in
+    let info = start .args .info .now in
+    let read-front = c .before .before .before .before .before .before .before .before .read-front in
+    let reading12 = c .before .before .before .before .before .before .reading12 in
+    let read-alarm = c .before .before .before .before .read-alarm in
+    let p = part-went (byte then command adr) (0, adr) (unhexes info) 0 (read-front .result .reading) (read-front .result .flag, adr) (read-front .ensures) (bytes-unhexes info) (reading12 .given .1) in
     ap (λ (x : AlarmTaken). paper (x .taken) (x .alarm)) (c .no-alarm2 .ensures)
-    ∙ record-refused noAlarm (λ (b : Alarm). flagged ((c .before .before .before .before .before .before .before .before .read-front .result .flag, (c .before .before .before .before .before .before .before .before .before .before .args .adr)), b)) alarm (unhexes (c .before .before .before .before .before .before .before .before .before .before .args .info .now)) (c .before .before .before .before .before .before .reading12 .given .0 .0) (part-stopped alarm noAlarm (unhexes (c .before .before .before .before .before .before .before .before .before .before .args .info .now)) (c .before .before .before .before .before .before .reading12 .given .0 .0) (c .before .before .before .before .read-alarm .result .reading) (c .before .before .before .before .read-alarm .result .alarm) (c .before .before .before .before .read-alarm .ensures) (c .before .before .reading2 .given .1))
-    ∙ first-read noAlarm flagged (byte then command (c .before .before .before .before .before .before .before .before .before .before .args .adr)) (λ x. ended alarm) (unhexes (c .before .before .before .before .before .before .before .before .before .before .args .info .now)) (p .get)
+    ∙ record-refused noAlarm (λ (b : Alarm). flagged ((read-front .result .flag, adr), b)) alarm (unhexes info) (reading12 .given .0 .0) (part-stopped alarm noAlarm (unhexes info) (reading12 .given .0 .0) (read-alarm .result .reading) (read-alarm .result .alarm) (read-alarm .ensures) (c .before .before .reading2 .given .1))
+    ∙ first-read noAlarm flagged (byte then command adr) (λ x. ended alarm) (unhexes info) (p .get)
 
 returns-4 : tie.Need-returns-4
 unfolding alarmInfo
 returns-4 c =
-    let p = part-went (byte then command (c .before .before .before .before .before .before .before .before .before .before .before .before .args .adr)) (0, (c .before .before .before .before .before .before .before .before .before .before .before .before .args .adr)) (unhexes (c .before .before .before .before .before .before .before .before .before .before .before .before .args .info .now)) 0 (c .before .before .before .before .before .before .before .before .before .before .read-front .result .reading) (c .before .before .before .before .before .before .before .before .before .before .read-front .result .flag, (c .before .before .before .before .before .before .before .before .before .before .before .before .args .adr)) (c .before .before .before .before .before .before .before .before .before .before .read-front .ensures) (bytes-unhexes (c .before .before .before .before .before .before .before .before .before .before .before .before .args .info .now)) (c .before .before .before .before .before .before .before .before .reading12 .given .1) in
-    let q = part-went alarm noAlarm (unhexes (c .before .before .before .before .before .before .before .before .before .before .before .before .args .info .now)) (c .before .before .before .before .before .before .before .before .reading12 .given .0 .0) (c .before .before .before .before .before .before .read-alarm .result .reading) (c .before .before .before .before .before .before .read-alarm .result .alarm) (c .before .before .before .before .before .before .read-alarm .ensures) (bytes-unhexes (c .before .before .before .before .before .before .before .before .before .before .before .before .args .info .now)) (c .before .before .before .before .reading22 .given .1) in
-    all-found noAlarm (λ (b : Alarm). flagged ((c .before .before .before .before .before .before .before .before .before .before .read-front .result .flag, (c .before .before .before .before .before .before .before .before .before .before .before .before .args .adr)), b)) alarm (unhexes (c .before .before .before .before .before .before .before .before .before .before .before .before .args .info .now)) (c .before .before .before .before .before .before .before .before .reading12 .given .0 .0) (c .before .before .before .before .reading22 .given .0 .0) (q .get) (omega (arith, c .before .before .byte-count .ensures))
-    ∙ first-read noAlarm flagged (byte then command (c .before .before .before .before .before .before .before .before .before .before .before .before .args .adr)) (λ x. ended alarm) (unhexes (c .before .before .before .before .before .before .before .before .before .before .before .before .args .info .now)) (p .get)
+    let start = c .before .before .before .before .before .before .before .before .before .before .before .before in
+    let adr = start .args .adr in
+    let info = start .args .info .now in
+    let read-front = c .before .before .before .before .before .before .before .before .before .before .read-front in
+    let reading12 = c .before .before .before .before .before .before .before .before .reading12 in
+    let read-alarm = c .before .before .before .before .before .before .read-alarm in
+    let reading22 = c .before .before .before .before .reading22 in
+    let p = part-went (byte then command adr) (0, adr) (unhexes info) 0 (read-front .result .reading) (read-front .result .flag, adr) (read-front .ensures) (bytes-unhexes info) (reading12 .given .1) in
+    let q = part-went alarm noAlarm (unhexes info) (reading12 .given .0 .0) (read-alarm .result .reading) (read-alarm .result .alarm) (read-alarm .ensures) (bytes-unhexes info) (reading22 .given .1) in
+    all-found noAlarm (λ (b : Alarm). flagged ((read-front .result .flag, adr), b)) alarm (unhexes info) (reading12 .given .0 .0) (reading22 .given .0 .0) (q .get) (omega (arith, c .before .before .byte-count .ensures))
+    ∙ first-read noAlarm flagged (byte then command adr) (λ x. ended alarm) (unhexes info) (p .get)
 
 pub take-alarm-spec : {M : Type 1} → statement M
 take-alarm-spec =

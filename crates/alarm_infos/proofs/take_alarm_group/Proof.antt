@@ -35,15 +35,21 @@ read-alarms-requires c κs = search needs
 returns : tie.Need-returns
 unfolding alarmGroup
 returns c =
+    let start = c .before .before .before .before .before .before in
+    let info = start .args .info .now in
+    let read-front = c .before .before .before .before .read-front in
     ap (λ (x : AlarmsTaken). paper (x .taken) (x .count, x .alarms)) (c .no-alarms .ensures)
-    ∙ first-refused (noPlaces noAlarm) (grouped noAlarm) (byte then command 0xFF) (λ x. many alarm some-alarm 12) (unhexes (c .before .before .before .before .before .before .args .info .now)) (part-stopped (byte then command 0xFF) (0, 0xFF) (unhexes (c .before .before .before .before .before .before .args .info .now)) 0 (c .before .before .before .before .read-front .result .reading) (c .before .before .before .before .read-front .result .flag, 0xFF) (c .before .before .before .before .read-front .ensures) (c .before .before .reading .given .1))
+    ∙ first-refused (noPlaces noAlarm) (grouped noAlarm) (byte then command 0xFF) (λ x. many alarm some-alarm 12) (unhexes info) (part-stopped (byte then command 0xFF) (0, 0xFF) (unhexes info) 0 (read-front .result .reading) (read-front .result .flag, 0xFF) (read-front .ensures) (c .before .before .reading .given .1))
 
 returns-2 : tie.Need-returns-2
 unfolding alarmGroup records
 returns-2 c =
-    let p = part-went (byte then command 0xFF) (0, 0xFF) (unhexes (c .before .before .before .before .before .before .args .info .now)) 0 (c .before .before .before .before .read-front .result .reading) (c .before .before .before .before .read-front .result .flag, 0xFF) (c .before .before .before .before .read-front .ensures) (bytes-unhexes (c .before .before .before .before .before .before .args .info .now)) (c .before .before .reading2 .given .1) in
+    let start = c .before .before .before .before .before .before in
+    let info = start .args .info .now in
+    let read-front = c .before .before .before .before .read-front in
+    let p = part-went (byte then command 0xFF) (0, 0xFF) (unhexes info) 0 (read-front .result .reading) (read-front .result .flag, 0xFF) (read-front .ensures) (bytes-unhexes info) (c .before .before .reading2 .given .1) in
     c .read-alarms .ensures
-    ∙ first-read (noPlaces noAlarm) (grouped noAlarm) (byte then command 0xFF) (λ x. many alarm some-alarm 12) (unhexes (c .before .before .before .before .before .before .args .info .now)) (p .get)
+    ∙ first-read (noPlaces noAlarm) (grouped noAlarm) (byte then command 0xFF) (λ x. many alarm some-alarm 12) (unhexes info) (p .get)
 
 pub take-alarm-group-spec : {M : Type 1} → statement M
 take-alarm-group-spec =

@@ -1,19 +1,16 @@
 -- Part by part, as the format says; the first that is refused decides.
 use mathlib.Core.Path.{ap, _∙_}
 use Prim.Native.Nat.{_-_}
-use lib.Dec.{T}
 use borrow.Author.Needs.{needs}
 use Rattle.alarm_reader.specs.declared.AlarmRead.{AlarmRead}
-use Rattle.alarm_reader.specs.declared.Singles.{Singles}
 use Rattle.alarm_reader.specs.Nothing.{noCodes, noSingles, noAlarm}
 use Rattle.readers.specs.Nothing.{noStatus}
-use Rattle.record.specs.Alarm.{code, codes, singles, alarm}
+use Rattle.record.specs.Alarm.{codes, singles, alarm}
 use Rattle.codec.proofs.Places.{found, stops}
-use Rattle.codec.specs.Reading.{read}
 use Rattle.readers.proofs.Steps.{part-went, part-stopped}
 use Rattle.readers.specs.Readings.{paper}
 use Rattle.codec.specs.Row.{row}
-use Rattle.codec.specs.Codec.{byte, no}
+use Rattle.codec.specs.Codec.{byte}
 use Rattle.hex.proofs.Laws.{bytes-unhexes}
 use Rattle.hex.specs.Hex.{unhexes}
 use Rattle.alarm_reader.proofs.read_alarm.Statement.{statement}
@@ -70,45 +67,83 @@ enum-known-reading4-2 c = search needs
 returns : tie.Need-returns
 unfolding alarm
 returns c =
-    let q1 = part-stopped (codes 16) (0, noCodes 16) (unhexes (c .before .before .before .before .before .before .args .info .now)) (c .before .before .before .before .before .before .args .at) (c .before .before .before .before .read-cell-codes .result .reading) (c .before .before .before .before .read-cell-codes .result .count, c .before .before .before .before .read-cell-codes .result .cells) (c .before .before .before .before .read-cell-codes .ensures) (c .before .before .reading1 .given .1) in
+    let start = c .before .before .before .before .before .before in
+    let info = start .args .info .now in
+    let place = start .args .at in
+    let read-cell-codes = c .before .before .before .before .read-cell-codes in
+    let q1 = part-stopped (codes 16) (0, noCodes 16) (unhexes info) place (read-cell-codes .result .reading) (read-cell-codes .result .count, read-cell-codes .result .cells) (read-cell-codes .ensures) (c .before .before .reading1 .given .1) in
     ap (λ (x : AlarmRead). paper (x .reading) (x .alarm)) (c .no-alarm .ensures)
-    ∙ stops alarm noAlarm (unhexes (c .before .before .before .before .before .before .args .info .now)) (c .before .before .before .before .before .before .args .at) (rw (q1))
+    ∙ stops alarm noAlarm (unhexes info) place (rw (q1))
 
 returns-2 : tie.Need-returns-2
 unfolding alarm
 returns-2 c =
-    let p1 = part-went (codes 16) (0, noCodes 16) (unhexes (c .before .before .before .before .before .before .before .before .before .before .args .info .now)) (c .before .before .before .before .before .before .before .before .before .before .args .at) (c .before .before .before .before .before .before .before .before .read-cell-codes .result .reading) (c .before .before .before .before .before .before .before .before .read-cell-codes .result .count, c .before .before .before .before .before .before .before .before .read-cell-codes .result .cells) (c .before .before .before .before .before .before .before .before .read-cell-codes .ensures) (bytes-unhexes (c .before .before .before .before .before .before .before .before .before .before .args .info .now)) (c .before .before .before .before .before .before .reading12 .given .1) in
-    let q2 = part-stopped (codes 8) (0, noCodes 8) (unhexes (c .before .before .before .before .before .before .before .before .before .before .args .info .now)) (c .before .before .before .before .before .before .reading12 .given .0 .0) (c .before .before .before .before .read-temperature-codes .result .reading) (c .before .before .before .before .read-temperature-codes .result .count, c .before .before .before .before .read-temperature-codes .result .temperatures) (c .before .before .before .before .read-temperature-codes .ensures) (c .before .before .reading2 .given .1) in
+    let start = c .before .before .before .before .before .before .before .before .before .before in
+    let info = start .args .info .now in
+    let place = start .args .at in
+    let read-cell-codes = c .before .before .before .before .before .before .before .before .read-cell-codes in
+    let reading12 = c .before .before .before .before .before .before .reading12 in
+    let read-temperature-codes = c .before .before .before .before .read-temperature-codes in
+    let p1 = part-went (codes 16) (0, noCodes 16) (unhexes info) place (read-cell-codes .result .reading) (read-cell-codes .result .count, read-cell-codes .result .cells) (read-cell-codes .ensures) (bytes-unhexes info) (reading12 .given .1) in
+    let q2 = part-stopped (codes 8) (0, noCodes 8) (unhexes info) (reading12 .given .0 .0) (read-temperature-codes .result .reading) (read-temperature-codes .result .count, read-temperature-codes .result .temperatures) (read-temperature-codes .ensures) (c .before .before .reading2 .given .1) in
     ap (λ (x : AlarmRead). paper (x .reading) (x .alarm)) (c .no-alarm2 .ensures)
-    ∙ stops alarm noAlarm (unhexes (c .before .before .before .before .before .before .before .before .before .before .args .info .now)) (c .before .before .before .before .before .before .before .before .before .before .args .at) (rw (p1 .get, q2))
+    ∙ stops alarm noAlarm (unhexes info) place (rw (p1 .get, q2))
 
 returns-3 : tie.Need-returns-3
 unfolding alarm
 returns-3 c =
-    let p1 = part-went (codes 16) (0, noCodes 16) (unhexes (c .before .before .before .before .before .before .before .before .before .before .before .before .before .before .args .info .now)) (c .before .before .before .before .before .before .before .before .before .before .before .before .before .before .args .at) (c .before .before .before .before .before .before .before .before .before .before .before .before .read-cell-codes .result .reading) (c .before .before .before .before .before .before .before .before .before .before .before .before .read-cell-codes .result .count, c .before .before .before .before .before .before .before .before .before .before .before .before .read-cell-codes .result .cells) (c .before .before .before .before .before .before .before .before .before .before .before .before .read-cell-codes .ensures) (bytes-unhexes (c .before .before .before .before .before .before .before .before .before .before .before .before .before .before .args .info .now)) (c .before .before .before .before .before .before .before .before .before .before .reading12 .given .1) in
-    let p2 = part-went (codes 8) (0, noCodes 8) (unhexes (c .before .before .before .before .before .before .before .before .before .before .before .before .before .before .args .info .now)) (c .before .before .before .before .before .before .before .before .before .before .reading12 .given .0 .0) (c .before .before .before .before .before .before .before .before .read-temperature-codes .result .reading) (c .before .before .before .before .before .before .before .before .read-temperature-codes .result .count, c .before .before .before .before .before .before .before .before .read-temperature-codes .result .temperatures) (c .before .before .before .before .before .before .before .before .read-temperature-codes .ensures) (bytes-unhexes (c .before .before .before .before .before .before .before .before .before .before .before .before .before .before .args .info .now)) (c .before .before .before .before .before .before .reading22 .given .1) in
-    let q3 = part-stopped singles noSingles (unhexes (c .before .before .before .before .before .before .before .before .before .before .before .before .before .before .args .info .now)) (c .before .before .before .before .before .before .reading22 .given .0 .0) (c .before .before .before .before .read-singles .result .reading) (c .before .before .before .before .read-singles .result .«charge_current», (c .before .before .before .before .read-singles .result .«module_voltage», c .before .before .before .before .read-singles .result .«discharge_current»)) (c .before .before .before .before .read-singles .ensures) (c .before .before .reading3 .given .1) in
+    let start = c .before .before .before .before .before .before .before .before .before .before .before .before .before .before in
+    let info = start .args .info .now in
+    let place = start .args .at in
+    let read-cell-codes = c .before .before .before .before .before .before .before .before .before .before .before .before .read-cell-codes in
+    let reading12 = c .before .before .before .before .before .before .before .before .before .before .reading12 in
+    let read-temperature-codes = c .before .before .before .before .before .before .before .before .read-temperature-codes in
+    let reading22 = c .before .before .before .before .before .before .reading22 in
+    let read-singles = c .before .before .before .before .read-singles in
+    let p1 = part-went (codes 16) (0, noCodes 16) (unhexes info) place (read-cell-codes .result .reading) (read-cell-codes .result .count, read-cell-codes .result .cells) (read-cell-codes .ensures) (bytes-unhexes info) (reading12 .given .1) in
+    let p2 = part-went (codes 8) (0, noCodes 8) (unhexes info) (reading12 .given .0 .0) (read-temperature-codes .result .reading) (read-temperature-codes .result .count, read-temperature-codes .result .temperatures) (read-temperature-codes .ensures) (bytes-unhexes info) (reading22 .given .1) in
+    let q3 = part-stopped singles noSingles (unhexes info) (reading22 .given .0 .0) (read-singles .result .reading) (read-singles .result .«charge_current», (read-singles .result .«module_voltage», read-singles .result .«discharge_current»)) (read-singles .ensures) (c .before .before .reading3 .given .1) in
     ap (λ (x : AlarmRead). paper (x .reading) (x .alarm)) (c .no-alarm3 .ensures)
-    ∙ stops alarm noAlarm (unhexes (c .before .before .before .before .before .before .before .before .before .before .before .before .before .before .args .info .now)) (c .before .before .before .before .before .before .before .before .before .before .before .before .before .before .args .at) (rw (p1 .get, p2 .get, q3))
+    ∙ stops alarm noAlarm (unhexes info) place (rw (p1 .get, p2 .get, q3))
 
 returns-4 : tie.Need-returns-4
 unfolding alarm
 returns-4 c =
-    let p1 = part-went (codes 16) (0, noCodes 16) (unhexes (c .before .before .before .before .before .before .before .before .before .before .before .before .before .before .before .before .before .before .args .info .now)) (c .before .before .before .before .before .before .before .before .before .before .before .before .before .before .before .before .before .before .args .at) (c .before .before .before .before .before .before .before .before .before .before .before .before .before .before .before .before .read-cell-codes .result .reading) (c .before .before .before .before .before .before .before .before .before .before .before .before .before .before .before .before .read-cell-codes .result .count, c .before .before .before .before .before .before .before .before .before .before .before .before .before .before .before .before .read-cell-codes .result .cells) (c .before .before .before .before .before .before .before .before .before .before .before .before .before .before .before .before .read-cell-codes .ensures) (bytes-unhexes (c .before .before .before .before .before .before .before .before .before .before .before .before .before .before .before .before .before .before .args .info .now)) (c .before .before .before .before .before .before .before .before .before .before .before .before .before .before .reading12 .given .1) in
-    let p2 = part-went (codes 8) (0, noCodes 8) (unhexes (c .before .before .before .before .before .before .before .before .before .before .before .before .before .before .before .before .before .before .args .info .now)) (c .before .before .before .before .before .before .before .before .before .before .before .before .before .before .reading12 .given .0 .0) (c .before .before .before .before .before .before .before .before .before .before .before .before .read-temperature-codes .result .reading) (c .before .before .before .before .before .before .before .before .before .before .before .before .read-temperature-codes .result .count, c .before .before .before .before .before .before .before .before .before .before .before .before .read-temperature-codes .result .temperatures) (c .before .before .before .before .before .before .before .before .before .before .before .before .read-temperature-codes .ensures) (bytes-unhexes (c .before .before .before .before .before .before .before .before .before .before .before .before .before .before .before .before .before .before .args .info .now)) (c .before .before .before .before .before .before .before .before .before .before .reading22 .given .1) in
-    let p3 = part-went singles noSingles (unhexes (c .before .before .before .before .before .before .before .before .before .before .before .before .before .before .before .before .before .before .args .info .now)) (c .before .before .before .before .before .before .before .before .before .before .reading22 .given .0 .0) (c .before .before .before .before .before .before .before .before .read-singles .result .reading) (c .before .before .before .before .before .before .before .before .read-singles .result .«charge_current», (c .before .before .before .before .before .before .before .before .read-singles .result .«module_voltage», c .before .before .before .before .before .before .before .before .read-singles .result .«discharge_current»)) (c .before .before .before .before .before .before .before .before .read-singles .ensures) (bytes-unhexes (c .before .before .before .before .before .before .before .before .before .before .before .before .before .before .before .before .before .before .args .info .now)) (c .before .before .before .before .before .before .reading32 .given .1) in
-    let q4 = part-stopped (row byte 5) noStatus (unhexes (c .before .before .before .before .before .before .before .before .before .before .before .before .before .before .before .before .before .before .args .info .now)) (c .before .before .before .before .before .before .reading32 .given .0 .0) (c .before .before .before .before .read-status .result .reading) (c .before .before .before .before .read-status .result .status) (c .before .before .before .before .read-status .ensures) (c .before .before .reading4 .given .1) in
+    let start = c .before .before .before .before .before .before .before .before .before .before .before .before .before .before .before .before .before .before in
+    let info = start .args .info .now in
+    let place = start .args .at in
+    let read-cell-codes = c .before .before .before .before .before .before .before .before .before .before .before .before .before .before .before .before .read-cell-codes in
+    let reading12 = c .before .before .before .before .before .before .before .before .before .before .before .before .before .before .reading12 in
+    let read-temperature-codes = c .before .before .before .before .before .before .before .before .before .before .before .before .read-temperature-codes in
+    let reading22 = c .before .before .before .before .before .before .before .before .before .before .reading22 in
+    let read-singles = c .before .before .before .before .before .before .before .before .read-singles in
+    let reading32 = c .before .before .before .before .before .before .reading32 in
+    let read-status = c .before .before .before .before .read-status in
+    let p1 = part-went (codes 16) (0, noCodes 16) (unhexes info) place (read-cell-codes .result .reading) (read-cell-codes .result .count, read-cell-codes .result .cells) (read-cell-codes .ensures) (bytes-unhexes info) (reading12 .given .1) in
+    let p2 = part-went (codes 8) (0, noCodes 8) (unhexes info) (reading12 .given .0 .0) (read-temperature-codes .result .reading) (read-temperature-codes .result .count, read-temperature-codes .result .temperatures) (read-temperature-codes .ensures) (bytes-unhexes info) (reading22 .given .1) in
+    let p3 = part-went singles noSingles (unhexes info) (reading22 .given .0 .0) (read-singles .result .reading) (read-singles .result .«charge_current», (read-singles .result .«module_voltage», read-singles .result .«discharge_current»)) (read-singles .ensures) (bytes-unhexes info) (reading32 .given .1) in
+    let q4 = part-stopped (row byte 5) noStatus (unhexes info) (reading32 .given .0 .0) (read-status .result .reading) (read-status .result .status) (read-status .ensures) (c .before .before .reading4 .given .1) in
     ap (λ (x : AlarmRead). paper (x .reading) (x .alarm)) (c .no-alarm4 .ensures)
-    ∙ stops alarm noAlarm (unhexes (c .before .before .before .before .before .before .before .before .before .before .before .before .before .before .before .before .before .before .args .info .now)) (c .before .before .before .before .before .before .before .before .before .before .before .before .before .before .before .before .before .before .args .at) (rw (p1 .get, p2 .get, p3 .get, q4))
+    ∙ stops alarm noAlarm (unhexes info) place (rw (p1 .get, p2 .get, p3 .get, q4))
 
 returns-5 : tie.Need-returns-5
 unfolding alarm
 returns-5 c =
-    let p1 = part-went (codes 16) (0, noCodes 16) (unhexes (c .before .before .before .before .before .before .before .before .before .before .before .before .before .before .before .before .before .before .before .before .args .info .now)) (c .before .before .before .before .before .before .before .before .before .before .before .before .before .before .before .before .before .before .before .before .args .at) (c .before .before .before .before .before .before .before .before .before .before .before .before .before .before .before .before .before .before .read-cell-codes .result .reading) (c .before .before .before .before .before .before .before .before .before .before .before .before .before .before .before .before .before .before .read-cell-codes .result .count, c .before .before .before .before .before .before .before .before .before .before .before .before .before .before .before .before .before .before .read-cell-codes .result .cells) (c .before .before .before .before .before .before .before .before .before .before .before .before .before .before .before .before .before .before .read-cell-codes .ensures) (bytes-unhexes (c .before .before .before .before .before .before .before .before .before .before .before .before .before .before .before .before .before .before .before .before .args .info .now)) (c .before .before .before .before .before .before .before .before .before .before .before .before .before .before .before .before .reading12 .given .1) in
-    let p2 = part-went (codes 8) (0, noCodes 8) (unhexes (c .before .before .before .before .before .before .before .before .before .before .before .before .before .before .before .before .before .before .before .before .args .info .now)) (c .before .before .before .before .before .before .before .before .before .before .before .before .before .before .before .before .reading12 .given .0 .0) (c .before .before .before .before .before .before .before .before .before .before .before .before .before .before .read-temperature-codes .result .reading) (c .before .before .before .before .before .before .before .before .before .before .before .before .before .before .read-temperature-codes .result .count, c .before .before .before .before .before .before .before .before .before .before .before .before .before .before .read-temperature-codes .result .temperatures) (c .before .before .before .before .before .before .before .before .before .before .before .before .before .before .read-temperature-codes .ensures) (bytes-unhexes (c .before .before .before .before .before .before .before .before .before .before .before .before .before .before .before .before .before .before .before .before .args .info .now)) (c .before .before .before .before .before .before .before .before .before .before .before .before .reading22 .given .1) in
-    let p3 = part-went singles noSingles (unhexes (c .before .before .before .before .before .before .before .before .before .before .before .before .before .before .before .before .before .before .before .before .args .info .now)) (c .before .before .before .before .before .before .before .before .before .before .before .before .reading22 .given .0 .0) (c .before .before .before .before .before .before .before .before .before .before .read-singles .result .reading) (c .before .before .before .before .before .before .before .before .before .before .read-singles .result .«charge_current», (c .before .before .before .before .before .before .before .before .before .before .read-singles .result .«module_voltage», c .before .before .before .before .before .before .before .before .before .before .read-singles .result .«discharge_current»)) (c .before .before .before .before .before .before .before .before .before .before .read-singles .ensures) (bytes-unhexes (c .before .before .before .before .before .before .before .before .before .before .before .before .before .before .before .before .before .before .before .before .args .info .now)) (c .before .before .before .before .before .before .before .before .reading32 .given .1) in
-    let p4 = part-went (row byte 5) noStatus (unhexes (c .before .before .before .before .before .before .before .before .before .before .before .before .before .before .before .before .before .before .before .before .args .info .now)) (c .before .before .before .before .before .before .before .before .reading32 .given .0 .0) (c .before .before .before .before .before .before .read-status .result .reading) (c .before .before .before .before .before .before .read-status .result .status) (c .before .before .before .before .before .before .read-status .ensures) (bytes-unhexes (c .before .before .before .before .before .before .before .before .before .before .before .before .before .before .before .before .before .before .before .before .args .info .now)) (c .before .before .before .before .reading42 .given .1) in
-    found alarm noAlarm (unhexes (c .before .before .before .before .before .before .before .before .before .before .before .before .before .before .before .before .before .before .before .before .args .info .now)) (c .before .before .before .before .before .before .before .before .before .before .before .before .before .before .before .before .before .before .before .before .args .at) (rw (p1 .get, p2 .get, p3 .get, p4 .get)) (p4 .place)
+    let start = c .before .before .before .before .before .before .before .before .before .before .before .before .before .before .before .before .before .before .before .before in
+    let info = start .args .info .now in
+    let place = start .args .at in
+    let read-cell-codes = c .before .before .before .before .before .before .before .before .before .before .before .before .before .before .before .before .before .before .read-cell-codes in
+    let reading12 = c .before .before .before .before .before .before .before .before .before .before .before .before .before .before .before .before .reading12 in
+    let read-temperature-codes = c .before .before .before .before .before .before .before .before .before .before .before .before .before .before .read-temperature-codes in
+    let reading22 = c .before .before .before .before .before .before .before .before .before .before .before .before .reading22 in
+    let read-singles = c .before .before .before .before .before .before .before .before .before .before .read-singles in
+    let reading32 = c .before .before .before .before .before .before .before .before .reading32 in
+    let read-status = c .before .before .before .before .before .before .read-status in
+    let p1 = part-went (codes 16) (0, noCodes 16) (unhexes info) place (read-cell-codes .result .reading) (read-cell-codes .result .count, read-cell-codes .result .cells) (read-cell-codes .ensures) (bytes-unhexes info) (reading12 .given .1) in
+    let p2 = part-went (codes 8) (0, noCodes 8) (unhexes info) (reading12 .given .0 .0) (read-temperature-codes .result .reading) (read-temperature-codes .result .count, read-temperature-codes .result .temperatures) (read-temperature-codes .ensures) (bytes-unhexes info) (reading22 .given .1) in
+    let p3 = part-went singles noSingles (unhexes info) (reading22 .given .0 .0) (read-singles .result .reading) (read-singles .result .«charge_current», (read-singles .result .«module_voltage», read-singles .result .«discharge_current»)) (read-singles .ensures) (bytes-unhexes info) (reading32 .given .1) in
+    let p4 = part-went (row byte 5) noStatus (unhexes info) (reading32 .given .0 .0) (read-status .result .reading) (read-status .result .status) (read-status .ensures) (bytes-unhexes info) (c .before .before .before .before .reading42 .given .1) in
+    found alarm noAlarm (unhexes info) place (rw (p1 .get, p2 .get, p3 .get, p4 .get)) (p4 .place)
 
 pub read-alarm-spec : {M : Type 1} → statement M
 read-alarm-spec =

@@ -2,18 +2,16 @@
 use mathlib.Core.Bool.{true, false}
 use mathlib.Core.Path.{_≡_, sym, ap, _∙_}
 use Prim.Native.Nat.{_-_}
-use lib.ListN.{take}
-use lib.Dec.{T, ltb→lt}
+use lib.Dec.{ltb→lt}
 use borrow.Author.Tests.{not-true, not-false}
 use borrow.Author.Needs.{needs}
 use Rattle.alarm_reader.specs.declared.Singles.{Singles}
 use Rattle.alarm_reader.specs.Nothing.{noSingles}
-use Rattle.record.specs.Alarm.{isCode, code, singles}
+use Rattle.record.specs.Alarm.{isCode, singles}
 use Rattle.codec.proofs.Places.{found, stops}
-use Rattle.codec.specs.Reading.{read}
 use Rattle.readers.proofs.Steps.{field-went, field-ended}
 use Rattle.readers.specs.Readings.{paper}
-use Rattle.codec.specs.Codec.{byte, no}
+use Rattle.codec.specs.Codec.{byte}
 use Rattle.hex.proofs.Laws.{bytes-unhexes}
 use Rattle.hex.specs.Hex.{unhexes}
 use Rattle.alarm_reader.proofs.read_singles.Statement.{statement}
@@ -34,12 +32,20 @@ no-singles-requires c κs = search needs
 returns : tie.Need-returns
 unfolding singles
 returns c =
-    let e1 = field-ended byte (unhexes (c .before .before .before .before .before .args .info .now)) (c .before .before .before .before .before .args .at) (c .before .before .before .field .result) (c .before .before .before .field .ensures) (c .before .enum-told .given .1) in
+    let start = c .before .before .before .before .before in
+    let info = start .args .info .now in
+    let place = start .args .at in
+    let field = c .before .before .before .field in
+    let e1 = field-ended byte (unhexes info) place (field .result) (field .ensures) (c .before .enum-told .given .1) in
     ap (λ (x : Singles). paper (x .reading) (x .«charge_current», (x .«module_voltage», x .«discharge_current»))) (c .no-singles .ensures)
-    ∙ stops singles noSingles (unhexes (c .before .before .before .before .before .args .info .now)) (c .before .before .before .before .before .args .at) (rw (e1))
+    ∙ stops singles noSingles (unhexes info) place (rw (e1))
 
 cast-is-code : tie.Need-cast-is-code
-cast-is-code c = let w1 = field-went byte (unhexes (c .before .before .before .before .before .args .info .now)) (c .before .before .before .before .before .args .at) (c .before .before .before .field .result) (c .before .before .before .field .ensures) (bytes-unhexes (c .before .before .before .before .before .args .info .now)) (c .before .charge .given .1) in record { fits = ltb→lt (c .before .charge .given .0 .0) 256 (w1 .ok) }
+cast-is-code c =
+    let start = c .before .before .before .before .before in
+    let info = start .args .info .now in
+    let field = c .before .before .before .field in
+    let w1 = field-went byte (unhexes info) (start .args .at) (field .result) (field .ensures) (bytes-unhexes info) (c .before .charge .given .1) in record { fits = ltb→lt (c .before .charge .given .0 .0) 256 (w1 .ok) }
 
 is-code-requires : tie.Need-is-code-requires
 is-code-requires c κs = search needs
@@ -50,10 +56,15 @@ no-singles-requires-2 c κs = search needs
 returns-2 : tie.Need-returns-2
 unfolding singles
 returns-2 c =
-    let w1 = field-went byte (unhexes (c .before .before .before .before .before .before .before .before .args .info .now)) (c .before .before .before .before .before .before .before .before .args .at) (c .before .before .before .before .before .before .field .result) (c .before .before .before .before .before .before .field .ensures) (bytes-unhexes (c .before .before .before .before .before .before .before .before .args .info .now)) (c .before .before .before .before .charge .given .1) in
-    let n1 : isCode (c .before .before .before .before .charge .given .0 .0) ≡ false = sym (c .before .before .is-code .ensures) ∙ not-true _ (c .before .if1 .taken) in
+    let start = c .before .before .before .before .before .before .before .before in
+    let info = start .args .info .now in
+    let place = start .args .at in
+    let field = c .before .before .before .before .before .before .field in
+    let charge = c .before .before .before .before .charge in
+    let w1 = field-went byte (unhexes info) place (field .result) (field .ensures) (bytes-unhexes info) (charge .given .1) in
+    let n1 : isCode (charge .given .0 .0) ≡ false = sym (c .before .before .is-code .ensures) ∙ not-true _ (c .before .if1 .taken) in
     ap (λ (x : Singles). paper (x .reading) (x .«charge_current», (x .«module_voltage», x .«discharge_current»))) (c .no-singles2 .ensures)
-    ∙ stops singles noSingles (unhexes (c .before .before .before .before .before .before .before .before .args .info .now)) (c .before .before .before .before .before .before .before .before .args .at) (rw (w1 .get, n1))
+    ∙ stops singles noSingles (unhexes info) place (rw (w1 .get, n1))
 
 field-requires-2 : tie.Need-field-requires-2
 field-requires-2 c κs = search needs
@@ -70,14 +81,26 @@ no-singles-requires-3 c κs = search needs
 returns-3 : tie.Need-returns-3
 unfolding singles
 returns-3 c =
-    let w1 = field-went byte (unhexes (c .before .before .before .before .before .before .before .before .before .before .before .args .info .now)) (c .before .before .before .before .before .before .before .before .before .before .before .args .at) (c .before .before .before .before .before .before .before .before .before .field .result) (c .before .before .before .before .before .before .before .before .before .field .ensures) (bytes-unhexes (c .before .before .before .before .before .before .before .before .before .before .before .args .info .now)) (c .before .before .before .before .before .before .before .charge .given .1) in
-    let y1 : isCode (c .before .before .before .before .before .before .before .charge .given .0 .0) ≡ true = sym (c .before .before .before .before .before .is-code .ensures) ∙ not-false _ (c .before .before .before .before .if1 .left) in
-    let e2 = field-ended byte (unhexes (c .before .before .before .before .before .before .before .before .before .before .before .args .info .now)) (c .before .before .before .before .before .before .before .charge .given .0 .1 .0) (c .before .before .before .field2 .result) (c .before .before .before .field2 .ensures) (c .before .enum-told2 .given .1) in
+    let start = c .before .before .before .before .before .before .before .before .before .before .before in
+    let info = start .args .info .now in
+    let place = start .args .at in
+    let field = c .before .before .before .before .before .before .before .before .before .field in
+    let charge = c .before .before .before .before .before .before .before .charge in
+    let is-code = c .before .before .before .before .before .is-code in
+    let field2 = c .before .before .before .field2 in
+    let w1 = field-went byte (unhexes info) place (field .result) (field .ensures) (bytes-unhexes info) (charge .given .1) in
+    let y1 : isCode (charge .given .0 .0) ≡ true = sym (is-code .ensures) ∙ not-false _ (c .before .before .before .before .if1 .left) in
+    let e2 = field-ended byte (unhexes info) (charge .given .0 .1 .0) (field2 .result) (field2 .ensures) (c .before .enum-told2 .given .1) in
     ap (λ (x : Singles). paper (x .reading) (x .«charge_current», (x .«module_voltage», x .«discharge_current»))) (c .no-singles3 .ensures)
-    ∙ stops singles noSingles (unhexes (c .before .before .before .before .before .before .before .before .before .before .before .args .info .now)) (c .before .before .before .before .before .before .before .before .before .before .before .args .at) (rw (w1 .get, y1, e2))
+    ∙ stops singles noSingles (unhexes info) place (rw (w1 .get, y1, e2))
 
 cast-is-code-2 : tie.Need-cast-is-code-2
-cast-is-code-2 c = let w2 = field-went byte (unhexes (c .before .before .before .before .before .before .before .before .before .before .before .args .info .now)) (c .before .before .before .before .before .before .before .charge .given .0 .1 .0) (c .before .before .before .field2 .result) (c .before .before .before .field2 .ensures) (bytes-unhexes (c .before .before .before .before .before .before .before .before .before .before .before .args .info .now)) (c .before .voltage .given .1) in record { fits = ltb→lt (c .before .voltage .given .0 .0) 256 (w2 .ok) }
+cast-is-code-2 c =
+    let start = c .before .before .before .before .before .before .before .before .before .before .before in
+    let info = start .args .info .now in
+    let charge = c .before .before .before .before .before .before .before .charge in
+    let field2 = c .before .before .before .field2 in
+    let w2 = field-went byte (unhexes info) (charge .given .0 .1 .0) (field2 .result) (field2 .ensures) (bytes-unhexes info) (c .before .voltage .given .1) in record { fits = ltb→lt (c .before .voltage .given .0 .0) 256 (w2 .ok) }
 
 is-code-requires-2 : tie.Need-is-code-requires-2
 is-code-requires-2 c κs = search needs
@@ -88,12 +111,21 @@ no-singles-requires-4 c κs = search needs
 returns-4 : tie.Need-returns-4
 unfolding singles
 returns-4 c =
-    let w1 = field-went byte (unhexes (c .before .before .before .before .before .before .before .before .before .before .before .before .before .before .args .info .now)) (c .before .before .before .before .before .before .before .before .before .before .before .before .before .before .args .at) (c .before .before .before .before .before .before .before .before .before .before .before .before .field .result) (c .before .before .before .before .before .before .before .before .before .before .before .before .field .ensures) (bytes-unhexes (c .before .before .before .before .before .before .before .before .before .before .before .before .before .before .args .info .now)) (c .before .before .before .before .before .before .before .before .before .before .charge .given .1) in
-    let y1 : isCode (c .before .before .before .before .before .before .before .before .before .before .charge .given .0 .0) ≡ true = sym (c .before .before .before .before .before .before .before .before .is-code .ensures) ∙ not-false _ (c .before .before .before .before .before .before .before .if1 .left) in
-    let w2 = field-went byte (unhexes (c .before .before .before .before .before .before .before .before .before .before .before .before .before .before .args .info .now)) (c .before .before .before .before .before .before .before .before .before .before .charge .given .0 .1 .0) (c .before .before .before .before .before .before .field2 .result) (c .before .before .before .before .before .before .field2 .ensures) (bytes-unhexes (c .before .before .before .before .before .before .before .before .before .before .before .before .before .before .args .info .now)) (c .before .before .before .before .voltage .given .1) in
-    let n2 : isCode (c .before .before .before .before .voltage .given .0 .0) ≡ false = sym (c .before .before .is-code2 .ensures) ∙ not-true _ (c .before .if2 .taken) in
+    let start = c .before .before .before .before .before .before .before .before .before .before .before .before .before .before in
+    let info = start .args .info .now in
+    let place = start .args .at in
+    let field = c .before .before .before .before .before .before .before .before .before .before .before .before .field in
+    let charge = c .before .before .before .before .before .before .before .before .before .before .charge in
+    let is-code = c .before .before .before .before .before .before .before .before .is-code in
+    let if1 = c .before .before .before .before .before .before .before .if1 in
+    let field2 = c .before .before .before .before .before .before .field2 in
+    let voltage = c .before .before .before .before .voltage in
+    let w1 = field-went byte (unhexes info) place (field .result) (field .ensures) (bytes-unhexes info) (charge .given .1) in
+    let y1 : isCode (charge .given .0 .0) ≡ true = sym (is-code .ensures) ∙ not-false _ (if1 .left) in
+    let w2 = field-went byte (unhexes info) (charge .given .0 .1 .0) (field2 .result) (field2 .ensures) (bytes-unhexes info) (voltage .given .1) in
+    let n2 : isCode (voltage .given .0 .0) ≡ false = sym (c .before .before .is-code2 .ensures) ∙ not-true _ (c .before .if2 .taken) in
     ap (λ (x : Singles). paper (x .reading) (x .«charge_current», (x .«module_voltage», x .«discharge_current»))) (c .no-singles4 .ensures)
-    ∙ stops singles noSingles (unhexes (c .before .before .before .before .before .before .before .before .before .before .before .before .before .before .args .info .now)) (c .before .before .before .before .before .before .before .before .before .before .before .before .before .before .args .at) (rw (w1 .get, y1, w2 .get, n2))
+    ∙ stops singles noSingles (unhexes info) place (rw (w1 .get, y1, w2 .get, n2))
 
 field-requires-3 : tie.Need-field-requires-3
 field-requires-3 c κs = search needs
@@ -110,16 +142,32 @@ no-singles-requires-5 c κs = search needs
 returns-5 : tie.Need-returns-5
 unfolding singles
 returns-5 c =
-    let w1 = field-went byte (unhexes (c .before .before .before .before .before .before .before .before .before .before .before .before .before .before .before .before .before .args .info .now)) (c .before .before .before .before .before .before .before .before .before .before .before .before .before .before .before .before .before .args .at) (c .before .before .before .before .before .before .before .before .before .before .before .before .before .before .before .field .result) (c .before .before .before .before .before .before .before .before .before .before .before .before .before .before .before .field .ensures) (bytes-unhexes (c .before .before .before .before .before .before .before .before .before .before .before .before .before .before .before .before .before .args .info .now)) (c .before .before .before .before .before .before .before .before .before .before .before .before .before .charge .given .1) in
-    let y1 : isCode (c .before .before .before .before .before .before .before .before .before .before .before .before .before .charge .given .0 .0) ≡ true = sym (c .before .before .before .before .before .before .before .before .before .before .before .is-code .ensures) ∙ not-false _ (c .before .before .before .before .before .before .before .before .before .before .if1 .left) in
-    let w2 = field-went byte (unhexes (c .before .before .before .before .before .before .before .before .before .before .before .before .before .before .before .before .before .args .info .now)) (c .before .before .before .before .before .before .before .before .before .before .before .before .before .charge .given .0 .1 .0) (c .before .before .before .before .before .before .before .before .before .field2 .result) (c .before .before .before .before .before .before .before .before .before .field2 .ensures) (bytes-unhexes (c .before .before .before .before .before .before .before .before .before .before .before .before .before .before .before .before .before .args .info .now)) (c .before .before .before .before .before .before .before .voltage .given .1) in
-    let y2 : isCode (c .before .before .before .before .before .before .before .voltage .given .0 .0) ≡ true = sym (c .before .before .before .before .before .is-code2 .ensures) ∙ not-false _ (c .before .before .before .before .if2 .left) in
-    let e3 = field-ended byte (unhexes (c .before .before .before .before .before .before .before .before .before .before .before .before .before .before .before .before .before .args .info .now)) (c .before .before .before .before .before .before .before .voltage .given .0 .1 .0) (c .before .before .before .field3 .result) (c .before .before .before .field3 .ensures) (c .before .enum-told3 .given .1) in
+    let start = c .before .before .before .before .before .before .before .before .before .before .before .before .before .before .before .before .before in
+    let info = start .args .info .now in
+    let place = start .args .at in
+    let field = c .before .before .before .before .before .before .before .before .before .before .before .before .before .before .before .field in
+    let charge = c .before .before .before .before .before .before .before .before .before .before .before .before .before .charge in
+    let is-code = c .before .before .before .before .before .before .before .before .before .before .before .is-code in
+    let if1 = c .before .before .before .before .before .before .before .before .before .before .if1 in
+    let field2 = c .before .before .before .before .before .before .before .before .before .field2 in
+    let voltage = c .before .before .before .before .before .before .before .voltage in
+    let is-code2 = c .before .before .before .before .before .is-code2 in
+    let field3 = c .before .before .before .field3 in
+    let w1 = field-went byte (unhexes info) place (field .result) (field .ensures) (bytes-unhexes info) (charge .given .1) in
+    let y1 : isCode (charge .given .0 .0) ≡ true = sym (is-code .ensures) ∙ not-false _ (if1 .left) in
+    let w2 = field-went byte (unhexes info) (charge .given .0 .1 .0) (field2 .result) (field2 .ensures) (bytes-unhexes info) (voltage .given .1) in
+    let y2 : isCode (voltage .given .0 .0) ≡ true = sym (is-code2 .ensures) ∙ not-false _ (c .before .before .before .before .if2 .left) in
+    let e3 = field-ended byte (unhexes info) (voltage .given .0 .1 .0) (field3 .result) (field3 .ensures) (c .before .enum-told3 .given .1) in
     ap (λ (x : Singles). paper (x .reading) (x .«charge_current», (x .«module_voltage», x .«discharge_current»))) (c .no-singles5 .ensures)
-    ∙ stops singles noSingles (unhexes (c .before .before .before .before .before .before .before .before .before .before .before .before .before .before .before .before .before .args .info .now)) (c .before .before .before .before .before .before .before .before .before .before .before .before .before .before .before .before .before .args .at) (rw (w1 .get, y1, w2 .get, y2, e3))
+    ∙ stops singles noSingles (unhexes info) place (rw (w1 .get, y1, w2 .get, y2, e3))
 
 cast-is-code-3 : tie.Need-cast-is-code-3
-cast-is-code-3 c = let w3 = field-went byte (unhexes (c .before .before .before .before .before .before .before .before .before .before .before .before .before .before .before .before .before .args .info .now)) (c .before .before .before .before .before .before .before .voltage .given .0 .1 .0) (c .before .before .before .field3 .result) (c .before .before .before .field3 .ensures) (bytes-unhexes (c .before .before .before .before .before .before .before .before .before .before .before .before .before .before .before .before .before .args .info .now)) (c .before .discharge .given .1) in record { fits = ltb→lt (c .before .discharge .given .0 .0) 256 (w3 .ok) }
+cast-is-code-3 c =
+    let start = c .before .before .before .before .before .before .before .before .before .before .before .before .before .before .before .before .before in
+    let info = start .args .info .now in
+    let voltage = c .before .before .before .before .before .before .before .voltage in
+    let field3 = c .before .before .before .field3 in
+    let w3 = field-went byte (unhexes info) (voltage .given .0 .1 .0) (field3 .result) (field3 .ensures) (bytes-unhexes info) (c .before .discharge .given .1) in record { fits = ltb→lt (c .before .discharge .given .0 .0) 256 (w3 .ok) }
 
 is-code-requires-3 : tie.Need-is-code-requires-3
 is-code-requires-3 c κs = search needs
@@ -130,34 +178,77 @@ no-singles-requires-6 c κs = search needs
 returns-6 : tie.Need-returns-6
 unfolding singles
 returns-6 c =
-    let w1 = field-went byte (unhexes (c .before .before .before .before .before .before .before .before .before .before .before .before .before .before .before .before .before .before .before .before .args .info .now)) (c .before .before .before .before .before .before .before .before .before .before .before .before .before .before .before .before .before .before .before .before .args .at) (c .before .before .before .before .before .before .before .before .before .before .before .before .before .before .before .before .before .before .field .result) (c .before .before .before .before .before .before .before .before .before .before .before .before .before .before .before .before .before .before .field .ensures) (bytes-unhexes (c .before .before .before .before .before .before .before .before .before .before .before .before .before .before .before .before .before .before .before .before .args .info .now)) (c .before .before .before .before .before .before .before .before .before .before .before .before .before .before .before .before .charge .given .1) in
-    let y1 : isCode (c .before .before .before .before .before .before .before .before .before .before .before .before .before .before .before .before .charge .given .0 .0) ≡ true = sym (c .before .before .before .before .before .before .before .before .before .before .before .before .before .before .is-code .ensures) ∙ not-false _ (c .before .before .before .before .before .before .before .before .before .before .before .before .before .if1 .left) in
-    let w2 = field-went byte (unhexes (c .before .before .before .before .before .before .before .before .before .before .before .before .before .before .before .before .before .before .before .before .args .info .now)) (c .before .before .before .before .before .before .before .before .before .before .before .before .before .before .before .before .charge .given .0 .1 .0) (c .before .before .before .before .before .before .before .before .before .before .before .before .field2 .result) (c .before .before .before .before .before .before .before .before .before .before .before .before .field2 .ensures) (bytes-unhexes (c .before .before .before .before .before .before .before .before .before .before .before .before .before .before .before .before .before .before .before .before .args .info .now)) (c .before .before .before .before .before .before .before .before .before .before .voltage .given .1) in
-    let y2 : isCode (c .before .before .before .before .before .before .before .before .before .before .voltage .given .0 .0) ≡ true = sym (c .before .before .before .before .before .before .before .before .is-code2 .ensures) ∙ not-false _ (c .before .before .before .before .before .before .before .if2 .left) in
-    let w3 = field-went byte (unhexes (c .before .before .before .before .before .before .before .before .before .before .before .before .before .before .before .before .before .before .before .before .args .info .now)) (c .before .before .before .before .before .before .before .before .before .before .voltage .given .0 .1 .0) (c .before .before .before .before .before .before .field3 .result) (c .before .before .before .before .before .before .field3 .ensures) (bytes-unhexes (c .before .before .before .before .before .before .before .before .before .before .before .before .before .before .before .before .before .before .before .before .args .info .now)) (c .before .before .before .before .discharge .given .1) in
-    let n3 : isCode (c .before .before .before .before .discharge .given .0 .0) ≡ false = sym (c .before .before .is-code3 .ensures) ∙ not-true _ (c .before .if3 .taken) in
+    let start = c .before .before .before .before .before .before .before .before .before .before .before .before .before .before .before .before .before .before .before .before in
+    let info = start .args .info .now in
+    let place = start .args .at in
+    let field = c .before .before .before .before .before .before .before .before .before .before .before .before .before .before .before .before .before .before .field in
+    let charge = c .before .before .before .before .before .before .before .before .before .before .before .before .before .before .before .before .charge in
+    let is-code = c .before .before .before .before .before .before .before .before .before .before .before .before .before .before .is-code in
+    let if1 = c .before .before .before .before .before .before .before .before .before .before .before .before .before .if1 in
+    let field2 = c .before .before .before .before .before .before .before .before .before .before .before .before .field2 in
+    let voltage = c .before .before .before .before .before .before .before .before .before .before .voltage in
+    let is-code2 = c .before .before .before .before .before .before .before .before .is-code2 in
+    let if2 = c .before .before .before .before .before .before .before .if2 in
+    let field3 = c .before .before .before .before .before .before .field3 in
+    let discharge = c .before .before .before .before .discharge in
+    let w1 = field-went byte (unhexes info) place (field .result) (field .ensures) (bytes-unhexes info) (charge .given .1) in
+    let y1 : isCode (charge .given .0 .0) ≡ true = sym (is-code .ensures) ∙ not-false _ (if1 .left) in
+    let w2 = field-went byte (unhexes info) (charge .given .0 .1 .0) (field2 .result) (field2 .ensures) (bytes-unhexes info) (voltage .given .1) in
+    let y2 : isCode (voltage .given .0 .0) ≡ true = sym (is-code2 .ensures) ∙ not-false _ (if2 .left) in
+    let w3 = field-went byte (unhexes info) (voltage .given .0 .1 .0) (field3 .result) (field3 .ensures) (bytes-unhexes info) (discharge .given .1) in
+    let n3 : isCode (discharge .given .0 .0) ≡ false = sym (c .before .before .is-code3 .ensures) ∙ not-true _ (c .before .if3 .taken) in
     ap (λ (x : Singles). paper (x .reading) (x .«charge_current», (x .«module_voltage», x .«discharge_current»))) (c .no-singles6 .ensures)
-    ∙ stops singles noSingles (unhexes (c .before .before .before .before .before .before .before .before .before .before .before .before .before .before .before .before .before .before .before .before .args .info .now)) (c .before .before .before .before .before .before .before .before .before .before .before .before .before .before .before .before .before .before .before .before .args .at) (rw (w1 .get, y1, w2 .get, y2, w3 .get, n3))
+    ∙ stops singles noSingles (unhexes info) place (rw (w1 .get, y1, w2 .get, y2, w3 .get, n3))
 
 cast-t12 : tie.Need-cast-t12
-cast-t12 c = let w1 = field-went byte (unhexes (c .before .before .before .before .before .before .before .before .before .before .before .before .before .before .before .before .before .before .before .args .info .now)) (c .before .before .before .before .before .before .before .before .before .before .before .before .before .before .before .before .before .before .before .args .at) (c .before .before .before .before .before .before .before .before .before .before .before .before .before .before .before .before .before .field .result) (c .before .before .before .before .before .before .before .before .before .before .before .before .before .before .before .before .before .field .ensures) (bytes-unhexes (c .before .before .before .before .before .before .before .before .before .before .before .before .before .before .before .before .before .before .before .args .info .now)) (c .before .before .before .before .before .before .before .before .before .before .before .before .before .before .before .charge .given .1) in record { fits = ltb→lt (c .before .before .before .before .before .before .before .before .before .before .before .before .before .before .before .charge .given .0 .0) 256 (w1 .ok) }
+cast-t12 c =
+    let start = c .before .before .before .before .before .before .before .before .before .before .before .before .before .before .before .before .before .before .before in
+    let info = start .args .info .now in
+    let field = c .before .before .before .before .before .before .before .before .before .before .before .before .before .before .before .before .before .field in
+    let charge = c .before .before .before .before .before .before .before .before .before .before .before .before .before .before .before .charge in
+    let w1 = field-went byte (unhexes info) (start .args .at) (field .result) (field .ensures) (bytes-unhexes info) (charge .given .1) in record { fits = ltb→lt (charge .given .0 .0) 256 (w1 .ok) }
 
 cast-t22 : tie.Need-cast-t22
-cast-t22 c = let w2 = field-went byte (unhexes (c .before .before .before .before .before .before .before .before .before .before .before .before .before .before .before .before .before .before .before .args .info .now)) (c .before .before .before .before .before .before .before .before .before .before .before .before .before .before .before .charge .given .0 .1 .0) (c .before .before .before .before .before .before .before .before .before .before .before .field2 .result) (c .before .before .before .before .before .before .before .before .before .before .before .field2 .ensures) (bytes-unhexes (c .before .before .before .before .before .before .before .before .before .before .before .before .before .before .before .before .before .before .before .args .info .now)) (c .before .before .before .before .before .before .before .before .before .voltage .given .1) in record { fits = ltb→lt (c .before .before .before .before .before .before .before .before .before .voltage .given .0 .0) 256 (w2 .ok) }
+cast-t22 c =
+    let start = c .before .before .before .before .before .before .before .before .before .before .before .before .before .before .before .before .before .before .before in
+    let info = start .args .info .now in
+    let charge = c .before .before .before .before .before .before .before .before .before .before .before .before .before .before .before .charge in
+    let field2 = c .before .before .before .before .before .before .before .before .before .before .before .field2 in
+    let voltage = c .before .before .before .before .before .before .before .before .before .voltage in
+    let w2 = field-went byte (unhexes info) (charge .given .0 .1 .0) (field2 .result) (field2 .ensures) (bytes-unhexes info) (voltage .given .1) in record { fits = ltb→lt (voltage .given .0 .0) 256 (w2 .ok) }
 
 cast-t23 : tie.Need-cast-t23
-cast-t23 c = let w3 = field-went byte (unhexes (c .before .before .before .before .before .before .before .before .before .before .before .before .before .before .before .before .before .before .before .args .info .now)) (c .before .before .before .before .before .before .before .before .before .voltage .given .0 .1 .0) (c .before .before .before .before .before .field3 .result) (c .before .before .before .before .before .field3 .ensures) (bytes-unhexes (c .before .before .before .before .before .before .before .before .before .before .before .before .before .before .before .before .before .before .before .args .info .now)) (c .before .before .before .discharge .given .1) in record { fits = ltb→lt (c .before .before .before .discharge .given .0 .0) 256 (w3 .ok) }
+cast-t23 c =
+    let start = c .before .before .before .before .before .before .before .before .before .before .before .before .before .before .before .before .before .before .before in
+    let info = start .args .info .now in
+    let voltage = c .before .before .before .before .before .before .before .before .before .voltage in
+    let field3 = c .before .before .before .before .before .field3 in
+    let discharge = c .before .before .before .discharge in
+    let w3 = field-went byte (unhexes info) (voltage .given .0 .1 .0) (field3 .result) (field3 .ensures) (bytes-unhexes info) (discharge .given .1) in record { fits = ltb→lt (discharge .given .0 .0) 256 (w3 .ok) }
 
 returns-7 : tie.Need-returns-7
 unfolding singles
 returns-7 c =
-    let w1 = field-went byte (unhexes (c .before .before .before .before .before .before .before .before .before .before .before .before .before .before .before .before .before .before .before .args .info .now)) (c .before .before .before .before .before .before .before .before .before .before .before .before .before .before .before .before .before .before .before .args .at) (c .before .before .before .before .before .before .before .before .before .before .before .before .before .before .before .before .before .field .result) (c .before .before .before .before .before .before .before .before .before .before .before .before .before .before .before .before .before .field .ensures) (bytes-unhexes (c .before .before .before .before .before .before .before .before .before .before .before .before .before .before .before .before .before .before .before .args .info .now)) (c .before .before .before .before .before .before .before .before .before .before .before .before .before .before .before .charge .given .1) in
-    let y1 : isCode (c .before .before .before .before .before .before .before .before .before .before .before .before .before .before .before .charge .given .0 .0) ≡ true = sym (c .before .before .before .before .before .before .before .before .before .before .before .before .before .is-code .ensures) ∙ not-false _ (c .before .before .before .before .before .before .before .before .before .before .before .before .if1 .left) in
-    let w2 = field-went byte (unhexes (c .before .before .before .before .before .before .before .before .before .before .before .before .before .before .before .before .before .before .before .args .info .now)) (c .before .before .before .before .before .before .before .before .before .before .before .before .before .before .before .charge .given .0 .1 .0) (c .before .before .before .before .before .before .before .before .before .before .before .field2 .result) (c .before .before .before .before .before .before .before .before .before .before .before .field2 .ensures) (bytes-unhexes (c .before .before .before .before .before .before .before .before .before .before .before .before .before .before .before .before .before .before .before .args .info .now)) (c .before .before .before .before .before .before .before .before .before .voltage .given .1) in
-    let y2 : isCode (c .before .before .before .before .before .before .before .before .before .voltage .given .0 .0) ≡ true = sym (c .before .before .before .before .before .before .before .is-code2 .ensures) ∙ not-false _ (c .before .before .before .before .before .before .if2 .left) in
-    let w3 = field-went byte (unhexes (c .before .before .before .before .before .before .before .before .before .before .before .before .before .before .before .before .before .before .before .args .info .now)) (c .before .before .before .before .before .before .before .before .before .voltage .given .0 .1 .0) (c .before .before .before .before .before .field3 .result) (c .before .before .before .before .before .field3 .ensures) (bytes-unhexes (c .before .before .before .before .before .before .before .before .before .before .before .before .before .before .before .before .before .before .before .args .info .now)) (c .before .before .before .discharge .given .1) in
-    let y3 : isCode (c .before .before .before .discharge .given .0 .0) ≡ true = sym (c .before .is-code3 .ensures) ∙ not-false _ (c .if3 .left) in
-    found singles noSingles (unhexes (c .before .before .before .before .before .before .before .before .before .before .before .before .before .before .before .before .before .before .before .args .info .now)) (c .before .before .before .before .before .before .before .before .before .before .before .before .before .before .before .before .before .before .before .args .at) (rw (w1 .get, y1, w2 .get, y2, w3 .get, y3)) (w3 .place)
+    let start = c .before .before .before .before .before .before .before .before .before .before .before .before .before .before .before .before .before .before .before in
+    let info = start .args .info .now in
+    let place = start .args .at in
+    let field = c .before .before .before .before .before .before .before .before .before .before .before .before .before .before .before .before .before .field in
+    let charge = c .before .before .before .before .before .before .before .before .before .before .before .before .before .before .before .charge in
+    let is-code = c .before .before .before .before .before .before .before .before .before .before .before .before .before .is-code in
+    let if1 = c .before .before .before .before .before .before .before .before .before .before .before .before .if1 in
+    let field2 = c .before .before .before .before .before .before .before .before .before .before .before .field2 in
+    let voltage = c .before .before .before .before .before .before .before .before .before .voltage in
+    let is-code2 = c .before .before .before .before .before .before .before .is-code2 in
+    let if2 = c .before .before .before .before .before .before .if2 in
+    let field3 = c .before .before .before .before .before .field3 in
+    let discharge = c .before .before .before .discharge in
+    let w1 = field-went byte (unhexes info) place (field .result) (field .ensures) (bytes-unhexes info) (charge .given .1) in
+    let y1 : isCode (charge .given .0 .0) ≡ true = sym (is-code .ensures) ∙ not-false _ (if1 .left) in
+    let w2 = field-went byte (unhexes info) (charge .given .0 .1 .0) (field2 .result) (field2 .ensures) (bytes-unhexes info) (voltage .given .1) in
+    let y2 : isCode (voltage .given .0 .0) ≡ true = sym (is-code2 .ensures) ∙ not-false _ (if2 .left) in
+    let w3 = field-went byte (unhexes info) (voltage .given .0 .1 .0) (field3 .result) (field3 .ensures) (bytes-unhexes info) (discharge .given .1) in
+    let y3 : isCode (discharge .given .0 .0) ≡ true = sym (c .before .is-code3 .ensures) ∙ not-false _ (c .if3 .left) in
+    found singles noSingles (unhexes info) place (rw (w1 .get, y1, w2 .get, y2, w3 .get, y3)) (w3 .place)
 
 pub read-singles-spec : {M : Type 1} → statement M
 read-singles-spec =

@@ -1,10 +1,8 @@
 -- What was seen is codes; what is left decides.
-use mathlib.Core.Bool.{true, false}
 use mathlib.Core.Path.{_≡_, refl, sym, _∙_}
 use Prim.Native.Nat.{zero-le, _-_, _≤_}
 use native.Mathlib.Omega.{arith}
-use lib.ListN.{length, drop, take}
-use lib.Dec.{T}
+use lib.ListN.{length, drop}
 use borrow.Author.Tests.{not-true, not-false}
 use borrow.Author.Needs.{needs}
 use Rattle.record.specs.Alarm.{isCode}
@@ -29,7 +27,10 @@ is-code-requires : tie.Need-is-code-requires Inv-loop μ-loop
 is-code-requires c κs = search needs
 
 returns : tie.Need-returns Inv-loop μ-loop
-returns c = sym (c .before .before .before .before .loop .inv .1 ∙ every-off isCode (c .before .before .before .before .before .before .args .list .now) (c .before .before .before .before .loop .i) 0 (omega arith) (sym (c .before .is-code .ensures) ∙ not-true _ (c .if1 .taken)))
+returns c =
+    let start = c .before .before .before .before .before .before in
+    let loop = c .before .before .before .before .loop in
+    sym (loop .inv .1 ∙ every-off isCode (start .args .list .now) (loop .i) 0 (omega arith) (sym (c .before .is-code .ensures) ∙ not-true _ (c .if1 .taken)))
 
 add-i : tie.Need-add-i Inv-loop μ-loop
 add-i c = search needs
@@ -38,7 +39,10 @@ loop-less : tie.Need-loop-less Inv-loop μ-loop
 loop-less c = search needs
 
 loop-again : tie.Need-loop-again Inv-loop μ-loop
-loop-again c = (omega arith, c .before .before .before .before .loop .inv .1 ∙ every-on isCode (c .before .before .before .before .before .before .args .list .now) (c .before .before .before .before .loop .i) 0 (omega arith) (sym (c .before .is-code .ensures) ∙ not-false _ (c .if1 .left)))
+loop-again c =
+    let start = c .before .before .before .before .before .before in
+    let loop = c .before .before .before .before .loop in
+    (omega arith, loop .inv .1 ∙ every-on isCode (start .args .list .now) (loop .i) 0 (omega arith) (sym (c .before .is-code .ensures) ∙ not-false _ (c .if1 .left)))
 
 returns-2 : tie.Need-returns-2 Inv-loop μ-loop
 returns-2 c = sym (c .before .loop .inv .1 ∙ every-end isCode (c .before .before .before .args .list .now) (c .before .loop .i) (omega arith))

@@ -2,8 +2,7 @@
 use mathlib.Core.Path.{_≡_, refl, sym, _∙_}
 use Prim.Native.Nat.{zero-le, _-_, _≤_}
 use native.Mathlib.Omega.{arith}
-use lib.ListN.{getD, length, drop, take}
-use lib.Dec.{T}
+use lib.ListN.{getD, length, drop}
 use borrow.Author.Tests.{eq-eqb, ne-eqb}
 use borrow.Author.Needs.{needs}
 use Rattle.alarm_writer.specs.List.{isZero}
@@ -25,7 +24,11 @@ shared-slice-read-if1 : tie.Need-shared-slice-read-if1 Inv-loop μ-loop
 shared-slice-read-if1 c = search needs
 
 returns : tie.Need-returns Inv-loop μ-loop
-returns c = sym (c .before .before .before .loop .inv .1 ∙ every-off isZero (c .before .before .before .before .args .list .now) (c .before .before .before .loop .i) 0 (omega arith) (ne-eqb (getD (c .before .before .before .before .args .list .now) (c .before .before .before .loop .i) 0) 0 (c .if1 .taken)))
+returns c =
+    let start = c .before .before .before .before in
+    let list = start .args .list .now in
+    let loop = c .before .before .before .loop in
+    sym (loop .inv .1 ∙ every-off isZero list (loop .i) 0 (omega arith) (ne-eqb (getD list (loop .i) 0) 0 (c .if1 .taken)))
 
 add-i : tie.Need-add-i Inv-loop μ-loop
 add-i c = search needs
@@ -34,7 +37,11 @@ loop-less : tie.Need-loop-less Inv-loop μ-loop
 loop-less c = search needs
 
 loop-again : tie.Need-loop-again Inv-loop μ-loop
-loop-again c = (omega arith, c .before .before .before .loop .inv .1 ∙ every-on isZero (c .before .before .before .before .args .list .now) (c .before .before .before .loop .i) 0 (omega arith) (eq-eqb (getD (c .before .before .before .before .args .list .now) (c .before .before .before .loop .i) 0) 0 (c .if1 .left)))
+loop-again c =
+    let start = c .before .before .before .before in
+    let list = start .args .list .now in
+    let loop = c .before .before .before .loop in
+    (omega arith, loop .inv .1 ∙ every-on isZero list (loop .i) 0 (omega arith) (eq-eqb (getD list (loop .i) 0) 0 (c .if1 .left)))
 
 returns-2 : tie.Need-returns-2 Inv-loop μ-loop
 returns-2 c = sym (c .before .loop .inv .1 ∙ every-end isZero (c .before .before .args .list .now) (c .before .loop .i) (omega arith))

@@ -1,10 +1,8 @@
 -- The count in range, codes up to it, and zeros beyond.
-use mathlib.Core.Bool.{true, false}
 use mathlib.Core.Path.{_≡_, sym, ap, _∙_}
 use Prim.Native.Nat.{ℕ, _-_}
 use lib.Seq.{take-length, length-take-le}
 use lib.ListN.{length-drop, length, drop, take}
-use lib.Dec.{T}
 use borrow.Author.Tests.{not-true, not-false}
 use borrow.Author.Needs.{needs}
 use Rattle.alarm_writer.proofs.Lists.{codes-low, codes-high, codes-not, codes-rest}
@@ -14,19 +12,27 @@ use Rattle.alarm_writer.proofs.fine_codes.Statement.{statement}
 use Rattle.alarm_writer.proofs.fine_codes.Tie as tie
 
 returns : tie.Need-returns
-returns c = codes-low (c .before .before .args .count) (c .before .before .args .list .now) (c .if1 .taken)
+returns c =
+    let start = c .before .before in
+    codes-low (start .args .count) (start .args .list .now) (c .if1 .taken)
 
 returns-2 : tie.Need-returns-2
-returns-2 c = codes-high (c .before .before .before .args .count) (c .before .before .before .args .list .now) (c .before .if1 .left) (c .if2 .taken)
+returns-2 c =
+    let start = c .before .before .before in
+    codes-high (start .args .count) (start .args .list .now) (c .before .if1 .left) (c .if2 .taken)
 
 slice-aggregate-all-codes : tie.Need-slice-aggregate-all-codes
-slice-aggregate-all-codes c = sym (length-take-le (c .before .before .before .before .args .count) (c .before .before .before .before .args .list .now) (c .before .if2 .left))
+slice-aggregate-all-codes c =
+    let start = c .before .before .before .before in
+    sym (length-take-le (start .args .count) (start .args .list .now) (c .before .if2 .left))
 
 all-codes-requires : tie.Need-all-codes-requires
 all-codes-requires c κs = search needs
 
 returns-3 : tie.Need-returns-3
-returns-3 c = codes-not (c .before .before .before .before .before .before .args .count) (c .before .before .before .before .before .before .args .list .now) (c .before .before .before .before .if1 .left) (c .before .before .before .if2 .left) (sym (c .before .all-codes .ensures) ∙ not-true _ (c .if3 .taken))
+returns-3 c =
+    let start = c .before .before .before .before .before .before in
+    codes-not (start .args .count) (start .args .list .now) (c .before .before .before .before .if1 .left) (c .before .before .before .if2 .left) (sym (c .before .all-codes .ensures) ∙ not-true _ (c .if3 .taken))
 
 sub-all-zero : tie.Need-sub-all-zero
 sub-all-zero c = search needs
@@ -42,8 +48,13 @@ all-zero-requires c κs = search needs
 
 returns-4 : tie.Need-returns-4
 returns-4 c =
-    let e : take (length (c .before .before .before .before .before .before .before .before .args .list .now) - (c .before .before .before .before .before .before .before .before .args .count)) (drop (c .before .before .before .before .before .before .before .before .args .count) (c .before .before .before .before .before .before .before .before .args .list .now)) ≡ drop (c .before .before .before .before .before .before .before .before .args .count) (c .before .before .before .before .before .before .before .before .args .list .now) = ap (λ (k : ℕ). take k (drop (c .before .before .before .before .before .before .before .before .args .count) (c .before .before .before .before .before .before .before .before .args .list .now))) (sym (length-drop (c .before .before .before .before .before .before .before .before .args .count) (c .before .before .before .before .before .before .before .before .args .list .now))) ∙ take-length (drop (c .before .before .before .before .before .before .before .before .args .count) (c .before .before .before .before .before .before .before .before .args .list .now)) in
-    c .all-zero .ensures ∙ ap (every isZero) e ∙ codes-rest (c .before .before .before .before .before .before .before .before .args .count) (c .before .before .before .before .before .before .before .before .args .list .now) (c .before .before .before .before .before .before .if1 .left) (c .before .before .before .before .before .if2 .left) (sym (c .before .before .before .all-codes .ensures) ∙ not-false _ (c .before .before .if3 .left))
+    let start = c .before .before .before .before .before .before .before .before in
+    let list = start .args .list .now in
+    let count = start .args .count in
+    let if1 = c .before .before .before .before .before .before .if1 in
+    let if2 = c .before .before .before .before .before .if2 in
+    let e : take (length list - count) (drop count list) ≡ drop count list = ap (λ (k : ℕ). take k (drop count list)) (sym (length-drop count list)) ∙ take-length (drop count list) in
+    c .all-zero .ensures ∙ ap (every isZero) e ∙ codes-rest count list (if1 .left) (if2 .left) (sym (c .before .before .before .all-codes .ensures) ∙ not-false _ (c .before .before .if3 .left))
 
 pub fine-codes-spec : {M : Type 1} → statement M
 fine-codes-spec =

@@ -3,13 +3,10 @@ use mathlib.Core.List.{[], _∷_, _++_}
 use mathlib.Core.Path.{sym}
 use Prim.Native.Nat.{_+_, _-_}
 use native.Mathlib.Omega.{arith}
-use lib.ListN.{length}
-use lib.Dec.{T}
 use borrow.Author.Needs.{needs}
 use Rattle.alarm_writer.proofs.Whole.{parts, text}
 use Rattle.alarm_writer.proofs.Lists.{format-parts}
 use Rattle.alarm_writer.specs.List.{codesText}
-use Rattle.record.specs.Alarm.{alarm}
 use Rattle.buffer.proofs.Puts.{room-rest, put-then, room-first}
 use Rattle.alarm_writer.proofs.put_alarm.Statement.{statement}
 use Rattle.alarm_writer.proofs.put_alarm.Tie as tie
@@ -19,87 +16,101 @@ slice-aggregate-put-codes c = search needs
 
 put-codes-requires : tie.Need-put-codes-requires
 put-codes-requires c κs =
-    let z = parts (c .before .before .before .before .before .before .args .alarm) (c .before .before .before .before .before .before .pre .0) in
-    let u = format-parts ((c .before .before .before .before .before .before .args .alarm) .«cell_count») ((c .before .before .before .before .before .before .args .alarm) .cells) 16 (z .cells) in
-    let r0 = rw (text (c .before .before .before .before .before .before .args .alarm)) at (c .before .before .before .before .before .before .pre .1) in
-    (omega (arith, u .0, u .1), room-first (codesText ((c .before .before .before .before .before .before .args .alarm) .«cell_count») ((c .before .before .before .before .before .before .args .alarm) .cells)) (codesText ((c .before .before .before .before .before .before .args .alarm) .«temperature_count») ((c .before .before .before .before .before .before .args .alarm) .temperatures) ++ ((c .before .before .before .before .before .before .args .alarm) .«charge_current» ∷ [] ++ ((c .before .before .before .before .before .before .args .alarm) .«module_voltage» ∷ [] ++ ((c .before .before .before .before .before .before .args .alarm) .«discharge_current» ∷ [] ++ ((c .before .before .before .before .before .before .args .alarm) .status))))) r0)
+    let start = c .before .before .before .before .before .before in
+    let the-alarm = start .args .alarm in
+    let z = parts the-alarm (start .pre .0) in
+    let u = format-parts (the-alarm .«cell_count») (the-alarm .cells) 16 (z .cells) in
+    let r0 = rw (text the-alarm) at (start .pre .1) in
+    (omega (arith, u .0, u .1), room-first (codesText (the-alarm .«cell_count») (the-alarm .cells)) (codesText (the-alarm .«temperature_count») (the-alarm .temperatures) ++ (the-alarm .«charge_current» ∷ [] ++ (the-alarm .«module_voltage» ∷ [] ++ (the-alarm .«discharge_current» ∷ [] ++ (the-alarm .status))))) r0)
 
 slice-aggregate-put-codes-2 : tie.Need-slice-aggregate-put-codes-2
 slice-aggregate-put-codes-2 c = search needs
 
 put-codes-requires-2 : tie.Need-put-codes-requires-2
 put-codes-requires-2 c κs =
-    let z = parts (c .before .before .before .before .before .before .before .before .before .before .before .args .alarm) (c .before .before .before .before .before .before .before .before .before .before .before .pre .0) in
-    let u = format-parts ((c .before .before .before .before .before .before .before .before .before .before .before .args .alarm) .«temperature_count») ((c .before .before .before .before .before .before .before .before .before .before .before .args .alarm) .temperatures) 8 (z .temperatures) in
-    let r0 = rw (text (c .before .before .before .before .before .before .before .before .before .before .before .args .alarm)) at (c .before .before .before .before .before .before .before .before .before .before .before .pre .1) in
-    let f0 = room-first (codesText ((c .before .before .before .before .before .before .before .before .before .before .before .args .alarm) .«cell_count») ((c .before .before .before .before .before .before .before .before .before .before .before .args .alarm) .cells)) (codesText ((c .before .before .before .before .before .before .before .before .before .before .before .args .alarm) .«temperature_count») ((c .before .before .before .before .before .before .before .before .before .before .before .args .alarm) .temperatures) ++ ((c .before .before .before .before .before .before .before .before .before .before .before .args .alarm) .«charge_current» ∷ [] ++ ((c .before .before .before .before .before .before .before .before .before .before .before .args .alarm) .«module_voltage» ∷ [] ++ ((c .before .before .before .before .before .before .before .before .before .before .before .args .alarm) .«discharge_current» ∷ [] ++ ((c .before .before .before .before .before .before .before .before .before .before .before .args .alarm) .status))))) r0 in
-    let p0 = (c .before .before .before .before .put-codes .ensures) in
-    let r1 = room-rest (codesText ((c .before .before .before .before .before .before .before .before .before .before .before .args .alarm) .«cell_count») ((c .before .before .before .before .before .before .before .before .before .before .before .args .alarm) .cells)) (codesText ((c .before .before .before .before .before .before .before .before .before .before .before .args .alarm) .«temperature_count») ((c .before .before .before .before .before .before .before .before .before .before .before .args .alarm) .temperatures) ++ ((c .before .before .before .before .before .before .before .before .before .before .before .args .alarm) .«charge_current» ∷ [] ++ ((c .before .before .before .before .before .before .before .before .before .before .before .args .alarm) .«module_voltage» ∷ [] ++ ((c .before .before .before .before .before .before .before .before .before .before .before .args .alarm) .«discharge_current» ∷ [] ++ ((c .before .before .before .before .before .before .before .before .before .before .before .args .alarm) .status))))) r0 p0 (c .before .before .before .before .put-codes .kept .0) in
-    (omega (arith, u .0, u .1), room-first (codesText ((c .before .before .before .before .before .before .before .before .before .before .before .args .alarm) .«temperature_count») ((c .before .before .before .before .before .before .before .before .before .before .before .args .alarm) .temperatures)) ((c .before .before .before .before .before .before .before .before .before .before .before .args .alarm) .«charge_current» ∷ [] ++ ((c .before .before .before .before .before .before .before .before .before .before .before .args .alarm) .«module_voltage» ∷ [] ++ ((c .before .before .before .before .before .before .before .before .before .before .before .args .alarm) .«discharge_current» ∷ [] ++ ((c .before .before .before .before .before .before .before .before .before .before .before .args .alarm) .status)))) r1)
+    let start = c .before .before .before .before .before .before .before .before .before .before .before in
+    let the-alarm = start .args .alarm in
+    let put-codes = c .before .before .before .before .put-codes in
+    let z = parts the-alarm (start .pre .0) in
+    let u = format-parts (the-alarm .«temperature_count») (the-alarm .temperatures) 8 (z .temperatures) in
+    let r0 = rw (text the-alarm) at (start .pre .1) in
+    let p0 = put-codes .ensures in
+    let r1 = room-rest (codesText (the-alarm .«cell_count») (the-alarm .cells)) (codesText (the-alarm .«temperature_count») (the-alarm .temperatures) ++ (the-alarm .«charge_current» ∷ [] ++ (the-alarm .«module_voltage» ∷ [] ++ (the-alarm .«discharge_current» ∷ [] ++ (the-alarm .status))))) r0 p0 (put-codes .kept .0) in
+    (omega (arith, u .0, u .1), room-first (codesText (the-alarm .«temperature_count») (the-alarm .temperatures)) (the-alarm .«charge_current» ∷ [] ++ (the-alarm .«module_voltage» ∷ [] ++ (the-alarm .«discharge_current» ∷ [] ++ (the-alarm .status)))) r1)
 
 put-requires : tie.Need-put-requires
 put-requires c κs =
-    let r0 = rw (text (c .before .before .before .before .before .before .before .before .before .before .before .before .before .before .before .args .alarm)) at (c .before .before .before .before .before .before .before .before .before .before .before .before .before .before .before .pre .1) in
-    let f0 = room-first (codesText ((c .before .before .before .before .before .before .before .before .before .before .before .before .before .before .before .args .alarm) .«cell_count») ((c .before .before .before .before .before .before .before .before .before .before .before .before .before .before .before .args .alarm) .cells)) (codesText ((c .before .before .before .before .before .before .before .before .before .before .before .before .before .before .before .args .alarm) .«temperature_count») ((c .before .before .before .before .before .before .before .before .before .before .before .before .before .before .before .args .alarm) .temperatures) ++ ((c .before .before .before .before .before .before .before .before .before .before .before .before .before .before .before .args .alarm) .«charge_current» ∷ [] ++ ((c .before .before .before .before .before .before .before .before .before .before .before .before .before .before .before .args .alarm) .«module_voltage» ∷ [] ++ ((c .before .before .before .before .before .before .before .before .before .before .before .before .before .before .before .args .alarm) .«discharge_current» ∷ [] ++ ((c .before .before .before .before .before .before .before .before .before .before .before .before .before .before .before .args .alarm) .status))))) r0 in
-    let p0 = (c .before .before .before .before .before .before .before .before .put-codes .ensures) in
-    let r1 = room-rest (codesText ((c .before .before .before .before .before .before .before .before .before .before .before .before .before .before .before .args .alarm) .«cell_count») ((c .before .before .before .before .before .before .before .before .before .before .before .before .before .before .before .args .alarm) .cells)) (codesText ((c .before .before .before .before .before .before .before .before .before .before .before .before .before .before .before .args .alarm) .«temperature_count») ((c .before .before .before .before .before .before .before .before .before .before .before .before .before .before .before .args .alarm) .temperatures) ++ ((c .before .before .before .before .before .before .before .before .before .before .before .before .before .before .before .args .alarm) .«charge_current» ∷ [] ++ ((c .before .before .before .before .before .before .before .before .before .before .before .before .before .before .before .args .alarm) .«module_voltage» ∷ [] ++ ((c .before .before .before .before .before .before .before .before .before .before .before .before .before .before .before .args .alarm) .«discharge_current» ∷ [] ++ ((c .before .before .before .before .before .before .before .before .before .before .before .before .before .before .before .args .alarm) .status))))) r0 p0 (c .before .before .before .before .before .before .before .before .put-codes .kept .0) in
-    let f1 = room-first (codesText ((c .before .before .before .before .before .before .before .before .before .before .before .before .before .before .before .args .alarm) .«temperature_count») ((c .before .before .before .before .before .before .before .before .before .before .before .before .before .before .before .args .alarm) .temperatures)) ((c .before .before .before .before .before .before .before .before .before .before .before .before .before .before .before .args .alarm) .«charge_current» ∷ [] ++ ((c .before .before .before .before .before .before .before .before .before .before .before .before .before .before .before .args .alarm) .«module_voltage» ∷ [] ++ ((c .before .before .before .before .before .before .before .before .before .before .before .before .before .before .before .args .alarm) .«discharge_current» ∷ [] ++ ((c .before .before .before .before .before .before .before .before .before .before .before .before .before .before .before .args .alarm) .status)))) r1 in
-    let p1 = (c .before .before .before .put-codes2 .ensures) in
-    let r2 = room-rest (codesText ((c .before .before .before .before .before .before .before .before .before .before .before .before .before .before .before .args .alarm) .«temperature_count») ((c .before .before .before .before .before .before .before .before .before .before .before .before .before .before .before .args .alarm) .temperatures)) ((c .before .before .before .before .before .before .before .before .before .before .before .before .before .before .before .args .alarm) .«charge_current» ∷ [] ++ ((c .before .before .before .before .before .before .before .before .before .before .before .before .before .before .before .args .alarm) .«module_voltage» ∷ [] ++ ((c .before .before .before .before .before .before .before .before .before .before .before .before .before .before .before .args .alarm) .«discharge_current» ∷ [] ++ ((c .before .before .before .before .before .before .before .before .before .before .before .before .before .before .before .args .alarm) .status)))) r1 p1 (c .before .before .before .put-codes2 .kept .0) in
-    room-first ((c .before .before .before .before .before .before .before .before .before .before .before .before .before .before .before .args .alarm) .«charge_current» ∷ []) ((c .before .before .before .before .before .before .before .before .before .before .before .before .before .before .before .args .alarm) .«module_voltage» ∷ [] ++ ((c .before .before .before .before .before .before .before .before .before .before .before .before .before .before .before .args .alarm) .«discharge_current» ∷ [] ++ ((c .before .before .before .before .before .before .before .before .before .before .before .before .before .before .before .args .alarm) .status))) r2
+    let start = c .before .before .before .before .before .before .before .before .before .before .before .before .before .before .before in
+    let the-alarm = start .args .alarm in
+    let put-codes = c .before .before .before .before .before .before .before .before .put-codes in
+    let put-codes2 = c .before .before .before .put-codes2 in
+    let r0 = rw (text the-alarm) at (start .pre .1) in
+    let p0 = put-codes .ensures in
+    let r1 = room-rest (codesText (the-alarm .«cell_count») (the-alarm .cells)) (codesText (the-alarm .«temperature_count») (the-alarm .temperatures) ++ (the-alarm .«charge_current» ∷ [] ++ (the-alarm .«module_voltage» ∷ [] ++ (the-alarm .«discharge_current» ∷ [] ++ (the-alarm .status))))) r0 p0 (put-codes .kept .0) in
+    let p1 = put-codes2 .ensures in
+    let r2 = room-rest (codesText (the-alarm .«temperature_count») (the-alarm .temperatures)) (the-alarm .«charge_current» ∷ [] ++ (the-alarm .«module_voltage» ∷ [] ++ (the-alarm .«discharge_current» ∷ [] ++ (the-alarm .status)))) r1 p1 (put-codes2 .kept .0) in
+    room-first (the-alarm .«charge_current» ∷ []) (the-alarm .«module_voltage» ∷ [] ++ (the-alarm .«discharge_current» ∷ [] ++ (the-alarm .status))) r2
 
 put-requires-2 : tie.Need-put-requires-2
 put-requires-2 c κs =
-    let r0 = rw (text (c .before .before .before .before .before .before .before .before .before .before .before .before .before .before .before .before .before .before .before .args .alarm)) at (c .before .before .before .before .before .before .before .before .before .before .before .before .before .before .before .before .before .before .before .pre .1) in
-    let f0 = room-first (codesText ((c .before .before .before .before .before .before .before .before .before .before .before .before .before .before .before .before .before .before .before .args .alarm) .«cell_count») ((c .before .before .before .before .before .before .before .before .before .before .before .before .before .before .before .before .before .before .before .args .alarm) .cells)) (codesText ((c .before .before .before .before .before .before .before .before .before .before .before .before .before .before .before .before .before .before .before .args .alarm) .«temperature_count») ((c .before .before .before .before .before .before .before .before .before .before .before .before .before .before .before .before .before .before .before .args .alarm) .temperatures) ++ ((c .before .before .before .before .before .before .before .before .before .before .before .before .before .before .before .before .before .before .before .args .alarm) .«charge_current» ∷ [] ++ ((c .before .before .before .before .before .before .before .before .before .before .before .before .before .before .before .before .before .before .before .args .alarm) .«module_voltage» ∷ [] ++ ((c .before .before .before .before .before .before .before .before .before .before .before .before .before .before .before .before .before .before .before .args .alarm) .«discharge_current» ∷ [] ++ ((c .before .before .before .before .before .before .before .before .before .before .before .before .before .before .before .before .before .before .before .args .alarm) .status))))) r0 in
-    let p0 = (c .before .before .before .before .before .before .before .before .before .before .before .before .put-codes .ensures) in
-    let r1 = room-rest (codesText ((c .before .before .before .before .before .before .before .before .before .before .before .before .before .before .before .before .before .before .before .args .alarm) .«cell_count») ((c .before .before .before .before .before .before .before .before .before .before .before .before .before .before .before .before .before .before .before .args .alarm) .cells)) (codesText ((c .before .before .before .before .before .before .before .before .before .before .before .before .before .before .before .before .before .before .before .args .alarm) .«temperature_count») ((c .before .before .before .before .before .before .before .before .before .before .before .before .before .before .before .before .before .before .before .args .alarm) .temperatures) ++ ((c .before .before .before .before .before .before .before .before .before .before .before .before .before .before .before .before .before .before .before .args .alarm) .«charge_current» ∷ [] ++ ((c .before .before .before .before .before .before .before .before .before .before .before .before .before .before .before .before .before .before .before .args .alarm) .«module_voltage» ∷ [] ++ ((c .before .before .before .before .before .before .before .before .before .before .before .before .before .before .before .before .before .before .before .args .alarm) .«discharge_current» ∷ [] ++ ((c .before .before .before .before .before .before .before .before .before .before .before .before .before .before .before .before .before .before .before .args .alarm) .status))))) r0 p0 (c .before .before .before .before .before .before .before .before .before .before .before .before .put-codes .kept .0) in
-    let f1 = room-first (codesText ((c .before .before .before .before .before .before .before .before .before .before .before .before .before .before .before .before .before .before .before .args .alarm) .«temperature_count») ((c .before .before .before .before .before .before .before .before .before .before .before .before .before .before .before .before .before .before .before .args .alarm) .temperatures)) ((c .before .before .before .before .before .before .before .before .before .before .before .before .before .before .before .before .before .before .before .args .alarm) .«charge_current» ∷ [] ++ ((c .before .before .before .before .before .before .before .before .before .before .before .before .before .before .before .before .before .before .before .args .alarm) .«module_voltage» ∷ [] ++ ((c .before .before .before .before .before .before .before .before .before .before .before .before .before .before .before .before .before .before .before .args .alarm) .«discharge_current» ∷ [] ++ ((c .before .before .before .before .before .before .before .before .before .before .before .before .before .before .before .before .before .before .before .args .alarm) .status)))) r1 in
-    let p1 = (c .before .before .before .before .before .before .before .put-codes2 .ensures) in
-    let r2 = room-rest (codesText ((c .before .before .before .before .before .before .before .before .before .before .before .before .before .before .before .before .before .before .before .args .alarm) .«temperature_count») ((c .before .before .before .before .before .before .before .before .before .before .before .before .before .before .before .before .before .before .before .args .alarm) .temperatures)) ((c .before .before .before .before .before .before .before .before .before .before .before .before .before .before .before .before .before .before .before .args .alarm) .«charge_current» ∷ [] ++ ((c .before .before .before .before .before .before .before .before .before .before .before .before .before .before .before .before .before .before .before .args .alarm) .«module_voltage» ∷ [] ++ ((c .before .before .before .before .before .before .before .before .before .before .before .before .before .before .before .before .before .before .before .args .alarm) .«discharge_current» ∷ [] ++ ((c .before .before .before .before .before .before .before .before .before .before .before .before .before .before .before .before .before .before .before .args .alarm) .status)))) r1 p1 (c .before .before .before .before .before .before .before .put-codes2 .kept .0) in
-    let f2 = room-first ((c .before .before .before .before .before .before .before .before .before .before .before .before .before .before .before .before .before .before .before .args .alarm) .«charge_current» ∷ []) ((c .before .before .before .before .before .before .before .before .before .before .before .before .before .before .before .before .before .before .before .args .alarm) .«module_voltage» ∷ [] ++ ((c .before .before .before .before .before .before .before .before .before .before .before .before .before .before .before .before .before .before .before .args .alarm) .«discharge_current» ∷ [] ++ ((c .before .before .before .before .before .before .before .before .before .before .before .before .before .before .before .before .before .before .before .args .alarm) .status))) r2 in
-    let p2 = (c .before .before .before .put .ensures) in
-    let r3 = room-rest ((c .before .before .before .before .before .before .before .before .before .before .before .before .before .before .before .before .before .before .before .args .alarm) .«charge_current» ∷ []) ((c .before .before .before .before .before .before .before .before .before .before .before .before .before .before .before .before .before .before .before .args .alarm) .«module_voltage» ∷ [] ++ ((c .before .before .before .before .before .before .before .before .before .before .before .before .before .before .before .before .before .before .before .args .alarm) .«discharge_current» ∷ [] ++ ((c .before .before .before .before .before .before .before .before .before .before .before .before .before .before .before .before .before .before .before .args .alarm) .status))) r2 p2 (c .before .before .before .put .kept .0) in
-    room-first ((c .before .before .before .before .before .before .before .before .before .before .before .before .before .before .before .before .before .before .before .args .alarm) .«module_voltage» ∷ []) ((c .before .before .before .before .before .before .before .before .before .before .before .before .before .before .before .before .before .before .before .args .alarm) .«discharge_current» ∷ [] ++ ((c .before .before .before .before .before .before .before .before .before .before .before .before .before .before .before .before .before .before .before .args .alarm) .status)) r3
+    let start = c .before .before .before .before .before .before .before .before .before .before .before .before .before .before .before .before .before .before .before in
+    let the-alarm = start .args .alarm in
+    let put-codes = c .before .before .before .before .before .before .before .before .before .before .before .before .put-codes in
+    let put-codes2 = c .before .before .before .before .before .before .before .put-codes2 in
+    let put = c .before .before .before .put in
+    let r0 = rw (text the-alarm) at (start .pre .1) in
+    let p0 = put-codes .ensures in
+    let r1 = room-rest (codesText (the-alarm .«cell_count») (the-alarm .cells)) (codesText (the-alarm .«temperature_count») (the-alarm .temperatures) ++ (the-alarm .«charge_current» ∷ [] ++ (the-alarm .«module_voltage» ∷ [] ++ (the-alarm .«discharge_current» ∷ [] ++ (the-alarm .status))))) r0 p0 (put-codes .kept .0) in
+    let p1 = put-codes2 .ensures in
+    let r2 = room-rest (codesText (the-alarm .«temperature_count») (the-alarm .temperatures)) (the-alarm .«charge_current» ∷ [] ++ (the-alarm .«module_voltage» ∷ [] ++ (the-alarm .«discharge_current» ∷ [] ++ (the-alarm .status)))) r1 p1 (put-codes2 .kept .0) in
+    let p2 = put .ensures in
+    let r3 = room-rest (the-alarm .«charge_current» ∷ []) (the-alarm .«module_voltage» ∷ [] ++ (the-alarm .«discharge_current» ∷ [] ++ (the-alarm .status))) r2 p2 (put .kept .0) in
+    room-first (the-alarm .«module_voltage» ∷ []) (the-alarm .«discharge_current» ∷ [] ++ (the-alarm .status)) r3
 
 put-requires-3 : tie.Need-put-requires-3
 put-requires-3 c κs =
-    let r0 = rw (text (c .before .before .before .before .before .before .before .before .before .before .before .before .before .before .before .before .before .before .before .before .before .before .before .args .alarm)) at (c .before .before .before .before .before .before .before .before .before .before .before .before .before .before .before .before .before .before .before .before .before .before .before .pre .1) in
-    let f0 = room-first (codesText ((c .before .before .before .before .before .before .before .before .before .before .before .before .before .before .before .before .before .before .before .before .before .before .before .args .alarm) .«cell_count») ((c .before .before .before .before .before .before .before .before .before .before .before .before .before .before .before .before .before .before .before .before .before .before .before .args .alarm) .cells)) (codesText ((c .before .before .before .before .before .before .before .before .before .before .before .before .before .before .before .before .before .before .before .before .before .before .before .args .alarm) .«temperature_count») ((c .before .before .before .before .before .before .before .before .before .before .before .before .before .before .before .before .before .before .before .before .before .before .before .args .alarm) .temperatures) ++ ((c .before .before .before .before .before .before .before .before .before .before .before .before .before .before .before .before .before .before .before .before .before .before .before .args .alarm) .«charge_current» ∷ [] ++ ((c .before .before .before .before .before .before .before .before .before .before .before .before .before .before .before .before .before .before .before .before .before .before .before .args .alarm) .«module_voltage» ∷ [] ++ ((c .before .before .before .before .before .before .before .before .before .before .before .before .before .before .before .before .before .before .before .before .before .before .before .args .alarm) .«discharge_current» ∷ [] ++ ((c .before .before .before .before .before .before .before .before .before .before .before .before .before .before .before .before .before .before .before .before .before .before .before .args .alarm) .status))))) r0 in
-    let p0 = (c .before .before .before .before .before .before .before .before .before .before .before .before .before .before .before .before .put-codes .ensures) in
-    let r1 = room-rest (codesText ((c .before .before .before .before .before .before .before .before .before .before .before .before .before .before .before .before .before .before .before .before .before .before .before .args .alarm) .«cell_count») ((c .before .before .before .before .before .before .before .before .before .before .before .before .before .before .before .before .before .before .before .before .before .before .before .args .alarm) .cells)) (codesText ((c .before .before .before .before .before .before .before .before .before .before .before .before .before .before .before .before .before .before .before .before .before .before .before .args .alarm) .«temperature_count») ((c .before .before .before .before .before .before .before .before .before .before .before .before .before .before .before .before .before .before .before .before .before .before .before .args .alarm) .temperatures) ++ ((c .before .before .before .before .before .before .before .before .before .before .before .before .before .before .before .before .before .before .before .before .before .before .before .args .alarm) .«charge_current» ∷ [] ++ ((c .before .before .before .before .before .before .before .before .before .before .before .before .before .before .before .before .before .before .before .before .before .before .before .args .alarm) .«module_voltage» ∷ [] ++ ((c .before .before .before .before .before .before .before .before .before .before .before .before .before .before .before .before .before .before .before .before .before .before .before .args .alarm) .«discharge_current» ∷ [] ++ ((c .before .before .before .before .before .before .before .before .before .before .before .before .before .before .before .before .before .before .before .before .before .before .before .args .alarm) .status))))) r0 p0 (c .before .before .before .before .before .before .before .before .before .before .before .before .before .before .before .before .put-codes .kept .0) in
-    let f1 = room-first (codesText ((c .before .before .before .before .before .before .before .before .before .before .before .before .before .before .before .before .before .before .before .before .before .before .before .args .alarm) .«temperature_count») ((c .before .before .before .before .before .before .before .before .before .before .before .before .before .before .before .before .before .before .before .before .before .before .before .args .alarm) .temperatures)) ((c .before .before .before .before .before .before .before .before .before .before .before .before .before .before .before .before .before .before .before .before .before .before .before .args .alarm) .«charge_current» ∷ [] ++ ((c .before .before .before .before .before .before .before .before .before .before .before .before .before .before .before .before .before .before .before .before .before .before .before .args .alarm) .«module_voltage» ∷ [] ++ ((c .before .before .before .before .before .before .before .before .before .before .before .before .before .before .before .before .before .before .before .before .before .before .before .args .alarm) .«discharge_current» ∷ [] ++ ((c .before .before .before .before .before .before .before .before .before .before .before .before .before .before .before .before .before .before .before .before .before .before .before .args .alarm) .status)))) r1 in
-    let p1 = (c .before .before .before .before .before .before .before .before .before .before .before .put-codes2 .ensures) in
-    let r2 = room-rest (codesText ((c .before .before .before .before .before .before .before .before .before .before .before .before .before .before .before .before .before .before .before .before .before .before .before .args .alarm) .«temperature_count») ((c .before .before .before .before .before .before .before .before .before .before .before .before .before .before .before .before .before .before .before .before .before .before .before .args .alarm) .temperatures)) ((c .before .before .before .before .before .before .before .before .before .before .before .before .before .before .before .before .before .before .before .before .before .before .before .args .alarm) .«charge_current» ∷ [] ++ ((c .before .before .before .before .before .before .before .before .before .before .before .before .before .before .before .before .before .before .before .before .before .before .before .args .alarm) .«module_voltage» ∷ [] ++ ((c .before .before .before .before .before .before .before .before .before .before .before .before .before .before .before .before .before .before .before .before .before .before .before .args .alarm) .«discharge_current» ∷ [] ++ ((c .before .before .before .before .before .before .before .before .before .before .before .before .before .before .before .before .before .before .before .before .before .before .before .args .alarm) .status)))) r1 p1 (c .before .before .before .before .before .before .before .before .before .before .before .put-codes2 .kept .0) in
-    let f2 = room-first ((c .before .before .before .before .before .before .before .before .before .before .before .before .before .before .before .before .before .before .before .before .before .before .before .args .alarm) .«charge_current» ∷ []) ((c .before .before .before .before .before .before .before .before .before .before .before .before .before .before .before .before .before .before .before .before .before .before .before .args .alarm) .«module_voltage» ∷ [] ++ ((c .before .before .before .before .before .before .before .before .before .before .before .before .before .before .before .before .before .before .before .before .before .before .before .args .alarm) .«discharge_current» ∷ [] ++ ((c .before .before .before .before .before .before .before .before .before .before .before .before .before .before .before .before .before .before .before .before .before .before .before .args .alarm) .status))) r2 in
-    let p2 = (c .before .before .before .before .before .before .before .put .ensures) in
-    let r3 = room-rest ((c .before .before .before .before .before .before .before .before .before .before .before .before .before .before .before .before .before .before .before .before .before .before .before .args .alarm) .«charge_current» ∷ []) ((c .before .before .before .before .before .before .before .before .before .before .before .before .before .before .before .before .before .before .before .before .before .before .before .args .alarm) .«module_voltage» ∷ [] ++ ((c .before .before .before .before .before .before .before .before .before .before .before .before .before .before .before .before .before .before .before .before .before .before .before .args .alarm) .«discharge_current» ∷ [] ++ ((c .before .before .before .before .before .before .before .before .before .before .before .before .before .before .before .before .before .before .before .before .before .before .before .args .alarm) .status))) r2 p2 (c .before .before .before .before .before .before .before .put .kept .0) in
-    let f3 = room-first ((c .before .before .before .before .before .before .before .before .before .before .before .before .before .before .before .before .before .before .before .before .before .before .before .args .alarm) .«module_voltage» ∷ []) ((c .before .before .before .before .before .before .before .before .before .before .before .before .before .before .before .before .before .before .before .before .before .before .before .args .alarm) .«discharge_current» ∷ [] ++ ((c .before .before .before .before .before .before .before .before .before .before .before .before .before .before .before .before .before .before .before .before .before .before .before .args .alarm) .status)) r3 in
-    let p3 = (c .before .before .before .put2 .ensures) in
-    let r4 = room-rest ((c .before .before .before .before .before .before .before .before .before .before .before .before .before .before .before .before .before .before .before .before .before .before .before .args .alarm) .«module_voltage» ∷ []) ((c .before .before .before .before .before .before .before .before .before .before .before .before .before .before .before .before .before .before .before .before .before .before .before .args .alarm) .«discharge_current» ∷ [] ++ ((c .before .before .before .before .before .before .before .before .before .before .before .before .before .before .before .before .before .before .before .before .before .before .before .args .alarm) .status)) r3 p3 (c .before .before .before .put2 .kept .0) in
-    room-first ((c .before .before .before .before .before .before .before .before .before .before .before .before .before .before .before .before .before .before .before .before .before .before .before .args .alarm) .«discharge_current» ∷ []) ((c .before .before .before .before .before .before .before .before .before .before .before .before .before .before .before .before .before .before .before .before .before .before .before .args .alarm) .status) r4
+    let start = c .before .before .before .before .before .before .before .before .before .before .before .before .before .before .before .before .before .before .before .before .before .before .before in
+    let the-alarm = start .args .alarm in
+    let put-codes = c .before .before .before .before .before .before .before .before .before .before .before .before .before .before .before .before .put-codes in
+    let put-codes2 = c .before .before .before .before .before .before .before .before .before .before .before .put-codes2 in
+    let put = c .before .before .before .before .before .before .before .put in
+    let put2 = c .before .before .before .put2 in
+    let r0 = rw (text the-alarm) at (start .pre .1) in
+    let p0 = put-codes .ensures in
+    let r1 = room-rest (codesText (the-alarm .«cell_count») (the-alarm .cells)) (codesText (the-alarm .«temperature_count») (the-alarm .temperatures) ++ (the-alarm .«charge_current» ∷ [] ++ (the-alarm .«module_voltage» ∷ [] ++ (the-alarm .«discharge_current» ∷ [] ++ (the-alarm .status))))) r0 p0 (put-codes .kept .0) in
+    let p1 = put-codes2 .ensures in
+    let r2 = room-rest (codesText (the-alarm .«temperature_count») (the-alarm .temperatures)) (the-alarm .«charge_current» ∷ [] ++ (the-alarm .«module_voltage» ∷ [] ++ (the-alarm .«discharge_current» ∷ [] ++ (the-alarm .status)))) r1 p1 (put-codes2 .kept .0) in
+    let p2 = put .ensures in
+    let r3 = room-rest (the-alarm .«charge_current» ∷ []) (the-alarm .«module_voltage» ∷ [] ++ (the-alarm .«discharge_current» ∷ [] ++ (the-alarm .status))) r2 p2 (put .kept .0) in
+    let p3 = put2 .ensures in
+    let r4 = room-rest (the-alarm .«module_voltage» ∷ []) (the-alarm .«discharge_current» ∷ [] ++ (the-alarm .status)) r3 p3 (put2 .kept .0) in
+    room-first (the-alarm .«discharge_current» ∷ []) (the-alarm .status) r4
 
 slice-aggregate-put-all : tie.Need-slice-aggregate-put-all
-slice-aggregate-put-all c = sym (parts (c .before .before .before .before .before .before .before .before .before .before .before .before .before .before .before .before .before .before .before .before .before .before .before .before .before .before .before .before .args .alarm) (c .before .before .before .before .before .before .before .before .before .before .before .before .before .before .before .before .before .before .before .before .before .before .before .before .before .before .before .before .pre .0) .status)
+slice-aggregate-put-all c =
+    let start = c .before .before .before .before .before .before .before .before .before .before .before .before .before .before .before .before .before .before .before .before .before .before .before .before .before .before .before .before in
+    sym (parts (start .args .alarm) (start .pre .0) .status)
 
 put-all-requires : tie.Need-put-all-requires
 put-all-requires c κs =
-    let r0 = rw (text (c .before .before .before .before .before .before .before .before .before .before .before .before .before .before .before .before .before .before .before .before .before .before .before .before .before .before .before .before .args .alarm)) at (c .before .before .before .before .before .before .before .before .before .before .before .before .before .before .before .before .before .before .before .before .before .before .before .before .before .before .before .before .pre .1) in
-    let f0 = room-first (codesText ((c .before .before .before .before .before .before .before .before .before .before .before .before .before .before .before .before .before .before .before .before .before .before .before .before .before .before .before .before .args .alarm) .«cell_count») ((c .before .before .before .before .before .before .before .before .before .before .before .before .before .before .before .before .before .before .before .before .before .before .before .before .before .before .before .before .args .alarm) .cells)) (codesText ((c .before .before .before .before .before .before .before .before .before .before .before .before .before .before .before .before .before .before .before .before .before .before .before .before .before .before .before .before .args .alarm) .«temperature_count») ((c .before .before .before .before .before .before .before .before .before .before .before .before .before .before .before .before .before .before .before .before .before .before .before .before .before .before .before .before .args .alarm) .temperatures) ++ ((c .before .before .before .before .before .before .before .before .before .before .before .before .before .before .before .before .before .before .before .before .before .before .before .before .before .before .before .before .args .alarm) .«charge_current» ∷ [] ++ ((c .before .before .before .before .before .before .before .before .before .before .before .before .before .before .before .before .before .before .before .before .before .before .before .before .before .before .before .before .args .alarm) .«module_voltage» ∷ [] ++ ((c .before .before .before .before .before .before .before .before .before .before .before .before .before .before .before .before .before .before .before .before .before .before .before .before .before .before .before .before .args .alarm) .«discharge_current» ∷ [] ++ ((c .before .before .before .before .before .before .before .before .before .before .before .before .before .before .before .before .before .before .before .before .before .before .before .before .before .before .before .before .args .alarm) .status))))) r0 in
-    let p0 = (c .before .before .before .before .before .before .before .before .before .before .before .before .before .before .before .before .before .before .before .before .before .put-codes .ensures) in
-    let r1 = room-rest (codesText ((c .before .before .before .before .before .before .before .before .before .before .before .before .before .before .before .before .before .before .before .before .before .before .before .before .before .before .before .before .args .alarm) .«cell_count») ((c .before .before .before .before .before .before .before .before .before .before .before .before .before .before .before .before .before .before .before .before .before .before .before .before .before .before .before .before .args .alarm) .cells)) (codesText ((c .before .before .before .before .before .before .before .before .before .before .before .before .before .before .before .before .before .before .before .before .before .before .before .before .before .before .before .before .args .alarm) .«temperature_count») ((c .before .before .before .before .before .before .before .before .before .before .before .before .before .before .before .before .before .before .before .before .before .before .before .before .before .before .before .before .args .alarm) .temperatures) ++ ((c .before .before .before .before .before .before .before .before .before .before .before .before .before .before .before .before .before .before .before .before .before .before .before .before .before .before .before .before .args .alarm) .«charge_current» ∷ [] ++ ((c .before .before .before .before .before .before .before .before .before .before .before .before .before .before .before .before .before .before .before .before .before .before .before .before .before .before .before .before .args .alarm) .«module_voltage» ∷ [] ++ ((c .before .before .before .before .before .before .before .before .before .before .before .before .before .before .before .before .before .before .before .before .before .before .before .before .before .before .before .before .args .alarm) .«discharge_current» ∷ [] ++ ((c .before .before .before .before .before .before .before .before .before .before .before .before .before .before .before .before .before .before .before .before .before .before .before .before .before .before .before .before .args .alarm) .status))))) r0 p0 (c .before .before .before .before .before .before .before .before .before .before .before .before .before .before .before .before .before .before .before .before .before .put-codes .kept .0) in
-    let f1 = room-first (codesText ((c .before .before .before .before .before .before .before .before .before .before .before .before .before .before .before .before .before .before .before .before .before .before .before .before .before .before .before .before .args .alarm) .«temperature_count») ((c .before .before .before .before .before .before .before .before .before .before .before .before .before .before .before .before .before .before .before .before .before .before .before .before .before .before .before .before .args .alarm) .temperatures)) ((c .before .before .before .before .before .before .before .before .before .before .before .before .before .before .before .before .before .before .before .before .before .before .before .before .before .before .before .before .args .alarm) .«charge_current» ∷ [] ++ ((c .before .before .before .before .before .before .before .before .before .before .before .before .before .before .before .before .before .before .before .before .before .before .before .before .before .before .before .before .args .alarm) .«module_voltage» ∷ [] ++ ((c .before .before .before .before .before .before .before .before .before .before .before .before .before .before .before .before .before .before .before .before .before .before .before .before .before .before .before .before .args .alarm) .«discharge_current» ∷ [] ++ ((c .before .before .before .before .before .before .before .before .before .before .before .before .before .before .before .before .before .before .before .before .before .before .before .before .before .before .before .before .args .alarm) .status)))) r1 in
-    let p1 = (c .before .before .before .before .before .before .before .before .before .before .before .before .before .before .before .before .put-codes2 .ensures) in
-    let r2 = room-rest (codesText ((c .before .before .before .before .before .before .before .before .before .before .before .before .before .before .before .before .before .before .before .before .before .before .before .before .before .before .before .before .args .alarm) .«temperature_count») ((c .before .before .before .before .before .before .before .before .before .before .before .before .before .before .before .before .before .before .before .before .before .before .before .before .before .before .before .before .args .alarm) .temperatures)) ((c .before .before .before .before .before .before .before .before .before .before .before .before .before .before .before .before .before .before .before .before .before .before .before .before .before .before .before .before .args .alarm) .«charge_current» ∷ [] ++ ((c .before .before .before .before .before .before .before .before .before .before .before .before .before .before .before .before .before .before .before .before .before .before .before .before .before .before .before .before .args .alarm) .«module_voltage» ∷ [] ++ ((c .before .before .before .before .before .before .before .before .before .before .before .before .before .before .before .before .before .before .before .before .before .before .before .before .before .before .before .before .args .alarm) .«discharge_current» ∷ [] ++ ((c .before .before .before .before .before .before .before .before .before .before .before .before .before .before .before .before .before .before .before .before .before .before .before .before .before .before .before .before .args .alarm) .status)))) r1 p1 (c .before .before .before .before .before .before .before .before .before .before .before .before .before .before .before .before .put-codes2 .kept .0) in
-    let f2 = room-first ((c .before .before .before .before .before .before .before .before .before .before .before .before .before .before .before .before .before .before .before .before .before .before .before .before .before .before .before .before .args .alarm) .«charge_current» ∷ []) ((c .before .before .before .before .before .before .before .before .before .before .before .before .before .before .before .before .before .before .before .before .before .before .before .before .before .before .before .before .args .alarm) .«module_voltage» ∷ [] ++ ((c .before .before .before .before .before .before .before .before .before .before .before .before .before .before .before .before .before .before .before .before .before .before .before .before .before .before .before .before .args .alarm) .«discharge_current» ∷ [] ++ ((c .before .before .before .before .before .before .before .before .before .before .before .before .before .before .before .before .before .before .before .before .before .before .before .before .before .before .before .before .args .alarm) .status))) r2 in
-    let p2 = (c .before .before .before .before .before .before .before .before .before .before .before .before .put .ensures) in
-    let r3 = room-rest ((c .before .before .before .before .before .before .before .before .before .before .before .before .before .before .before .before .before .before .before .before .before .before .before .before .before .before .before .before .args .alarm) .«charge_current» ∷ []) ((c .before .before .before .before .before .before .before .before .before .before .before .before .before .before .before .before .before .before .before .before .before .before .before .before .before .before .before .before .args .alarm) .«module_voltage» ∷ [] ++ ((c .before .before .before .before .before .before .before .before .before .before .before .before .before .before .before .before .before .before .before .before .before .before .before .before .before .before .before .before .args .alarm) .«discharge_current» ∷ [] ++ ((c .before .before .before .before .before .before .before .before .before .before .before .before .before .before .before .before .before .before .before .before .before .before .before .before .before .before .before .before .args .alarm) .status))) r2 p2 (c .before .before .before .before .before .before .before .before .before .before .before .before .put .kept .0) in
-    let f3 = room-first ((c .before .before .before .before .before .before .before .before .before .before .before .before .before .before .before .before .before .before .before .before .before .before .before .before .before .before .before .before .args .alarm) .«module_voltage» ∷ []) ((c .before .before .before .before .before .before .before .before .before .before .before .before .before .before .before .before .before .before .before .before .before .before .before .before .before .before .before .before .args .alarm) .«discharge_current» ∷ [] ++ ((c .before .before .before .before .before .before .before .before .before .before .before .before .before .before .before .before .before .before .before .before .before .before .before .before .before .before .before .before .args .alarm) .status)) r3 in
-    let p3 = (c .before .before .before .before .before .before .before .before .put2 .ensures) in
-    let r4 = room-rest ((c .before .before .before .before .before .before .before .before .before .before .before .before .before .before .before .before .before .before .before .before .before .before .before .before .before .before .before .before .args .alarm) .«module_voltage» ∷ []) ((c .before .before .before .before .before .before .before .before .before .before .before .before .before .before .before .before .before .before .before .before .before .before .before .before .before .before .before .before .args .alarm) .«discharge_current» ∷ [] ++ ((c .before .before .before .before .before .before .before .before .before .before .before .before .before .before .before .before .before .before .before .before .before .before .before .before .before .before .before .before .args .alarm) .status)) r3 p3 (c .before .before .before .before .before .before .before .before .put2 .kept .0) in
-    let f4 = room-first ((c .before .before .before .before .before .before .before .before .before .before .before .before .before .before .before .before .before .before .before .before .before .before .before .before .before .before .before .before .args .alarm) .«discharge_current» ∷ []) ((c .before .before .before .before .before .before .before .before .before .before .before .before .before .before .before .before .before .before .before .before .before .before .before .before .before .before .before .before .args .alarm) .status) r4 in
-    let p4 = (c .before .before .before .before .put3 .ensures) in
-    let r5 = room-rest ((c .before .before .before .before .before .before .before .before .before .before .before .before .before .before .before .before .before .before .before .before .before .before .before .before .before .before .before .before .args .alarm) .«discharge_current» ∷ []) ((c .before .before .before .before .before .before .before .before .before .before .before .before .before .before .before .before .before .before .before .before .before .before .before .before .before .before .before .before .args .alarm) .status) r4 p4 (c .before .before .before .before .put3 .kept .0) in
+    let start = c .before .before .before .before .before .before .before .before .before .before .before .before .before .before .before .before .before .before .before .before .before .before .before .before .before .before .before .before in
+    let the-alarm = start .args .alarm in
+    let put-codes = c .before .before .before .before .before .before .before .before .before .before .before .before .before .before .before .before .before .before .before .before .before .put-codes in
+    let put-codes2 = c .before .before .before .before .before .before .before .before .before .before .before .before .before .before .before .before .put-codes2 in
+    let put = c .before .before .before .before .before .before .before .before .before .before .before .before .put in
+    let put2 = c .before .before .before .before .before .before .before .before .put2 in
+    let put3 = c .before .before .before .before .put3 in
+    let r0 = rw (text the-alarm) at (start .pre .1) in
+    let p0 = put-codes .ensures in
+    let r1 = room-rest (codesText (the-alarm .«cell_count») (the-alarm .cells)) (codesText (the-alarm .«temperature_count») (the-alarm .temperatures) ++ (the-alarm .«charge_current» ∷ [] ++ (the-alarm .«module_voltage» ∷ [] ++ (the-alarm .«discharge_current» ∷ [] ++ (the-alarm .status))))) r0 p0 (put-codes .kept .0) in
+    let p1 = put-codes2 .ensures in
+    let r2 = room-rest (codesText (the-alarm .«temperature_count») (the-alarm .temperatures)) (the-alarm .«charge_current» ∷ [] ++ (the-alarm .«module_voltage» ∷ [] ++ (the-alarm .«discharge_current» ∷ [] ++ (the-alarm .status)))) r1 p1 (put-codes2 .kept .0) in
+    let p2 = put .ensures in
+    let r3 = room-rest (the-alarm .«charge_current» ∷ []) (the-alarm .«module_voltage» ∷ [] ++ (the-alarm .«discharge_current» ∷ [] ++ (the-alarm .status))) r2 p2 (put .kept .0) in
+    let p3 = put2 .ensures in
+    let r4 = room-rest (the-alarm .«module_voltage» ∷ []) (the-alarm .«discharge_current» ∷ [] ++ (the-alarm .status)) r3 p3 (put2 .kept .0) in
+    let p4 = put3 .ensures in
+    let r5 = room-rest (the-alarm .«discharge_current» ∷ []) (the-alarm .status) r4 p4 (put3 .kept .0) in
     r5
 
 same-length : tie.Need-same-length
@@ -107,24 +118,30 @@ same-length c = search needs
 
 returns : tie.Need-returns
 returns c =
-    let r0 = rw (text (c .before .before .before .before .before .before .before .before .before .before .before .before .before .before .before .before .before .before .before .before .before .before .before .before .before .before .before .before .before .before .before .args .alarm)) at (c .before .before .before .before .before .before .before .before .before .before .before .before .before .before .before .before .before .before .before .before .before .before .before .before .before .before .before .before .before .before .before .pre .1) in
-    let f0 = room-first (codesText ((c .before .before .before .before .before .before .before .before .before .before .before .before .before .before .before .before .before .before .before .before .before .before .before .before .before .before .before .before .before .before .before .args .alarm) .«cell_count») ((c .before .before .before .before .before .before .before .before .before .before .before .before .before .before .before .before .before .before .before .before .before .before .before .before .before .before .before .before .before .before .before .args .alarm) .cells)) (codesText ((c .before .before .before .before .before .before .before .before .before .before .before .before .before .before .before .before .before .before .before .before .before .before .before .before .before .before .before .before .before .before .before .args .alarm) .«temperature_count») ((c .before .before .before .before .before .before .before .before .before .before .before .before .before .before .before .before .before .before .before .before .before .before .before .before .before .before .before .before .before .before .before .args .alarm) .temperatures) ++ ((c .before .before .before .before .before .before .before .before .before .before .before .before .before .before .before .before .before .before .before .before .before .before .before .before .before .before .before .before .before .before .before .args .alarm) .«charge_current» ∷ [] ++ ((c .before .before .before .before .before .before .before .before .before .before .before .before .before .before .before .before .before .before .before .before .before .before .before .before .before .before .before .before .before .before .before .args .alarm) .«module_voltage» ∷ [] ++ ((c .before .before .before .before .before .before .before .before .before .before .before .before .before .before .before .before .before .before .before .before .before .before .before .before .before .before .before .before .before .before .before .args .alarm) .«discharge_current» ∷ [] ++ ((c .before .before .before .before .before .before .before .before .before .before .before .before .before .before .before .before .before .before .before .before .before .before .before .before .before .before .before .before .before .before .before .args .alarm) .status))))) r0 in
-    let p0 = (c .before .before .before .before .before .before .before .before .before .before .before .before .before .before .before .before .before .before .before .before .before .before .before .before .put-codes .ensures) in
-    let r1 = room-rest (codesText ((c .before .before .before .before .before .before .before .before .before .before .before .before .before .before .before .before .before .before .before .before .before .before .before .before .before .before .before .before .before .before .before .args .alarm) .«cell_count») ((c .before .before .before .before .before .before .before .before .before .before .before .before .before .before .before .before .before .before .before .before .before .before .before .before .before .before .before .before .before .before .before .args .alarm) .cells)) (codesText ((c .before .before .before .before .before .before .before .before .before .before .before .before .before .before .before .before .before .before .before .before .before .before .before .before .before .before .before .before .before .before .before .args .alarm) .«temperature_count») ((c .before .before .before .before .before .before .before .before .before .before .before .before .before .before .before .before .before .before .before .before .before .before .before .before .before .before .before .before .before .before .before .args .alarm) .temperatures) ++ ((c .before .before .before .before .before .before .before .before .before .before .before .before .before .before .before .before .before .before .before .before .before .before .before .before .before .before .before .before .before .before .before .args .alarm) .«charge_current» ∷ [] ++ ((c .before .before .before .before .before .before .before .before .before .before .before .before .before .before .before .before .before .before .before .before .before .before .before .before .before .before .before .before .before .before .before .args .alarm) .«module_voltage» ∷ [] ++ ((c .before .before .before .before .before .before .before .before .before .before .before .before .before .before .before .before .before .before .before .before .before .before .before .before .before .before .before .before .before .before .before .args .alarm) .«discharge_current» ∷ [] ++ ((c .before .before .before .before .before .before .before .before .before .before .before .before .before .before .before .before .before .before .before .before .before .before .before .before .before .before .before .before .before .before .before .args .alarm) .status))))) r0 p0 (c .before .before .before .before .before .before .before .before .before .before .before .before .before .before .before .before .before .before .before .before .before .before .before .before .put-codes .kept .0) in
-    let f1 = room-first (codesText ((c .before .before .before .before .before .before .before .before .before .before .before .before .before .before .before .before .before .before .before .before .before .before .before .before .before .before .before .before .before .before .before .args .alarm) .«temperature_count») ((c .before .before .before .before .before .before .before .before .before .before .before .before .before .before .before .before .before .before .before .before .before .before .before .before .before .before .before .before .before .before .before .args .alarm) .temperatures)) ((c .before .before .before .before .before .before .before .before .before .before .before .before .before .before .before .before .before .before .before .before .before .before .before .before .before .before .before .before .before .before .before .args .alarm) .«charge_current» ∷ [] ++ ((c .before .before .before .before .before .before .before .before .before .before .before .before .before .before .before .before .before .before .before .before .before .before .before .before .before .before .before .before .before .before .before .args .alarm) .«module_voltage» ∷ [] ++ ((c .before .before .before .before .before .before .before .before .before .before .before .before .before .before .before .before .before .before .before .before .before .before .before .before .before .before .before .before .before .before .before .args .alarm) .«discharge_current» ∷ [] ++ ((c .before .before .before .before .before .before .before .before .before .before .before .before .before .before .before .before .before .before .before .before .before .before .before .before .before .before .before .before .before .before .before .args .alarm) .status)))) r1 in
-    let p1 = (c .before .before .before .before .before .before .before .before .before .before .before .before .before .before .before .before .before .before .before .put-codes2 .ensures) in
-    let r2 = room-rest (codesText ((c .before .before .before .before .before .before .before .before .before .before .before .before .before .before .before .before .before .before .before .before .before .before .before .before .before .before .before .before .before .before .before .args .alarm) .«temperature_count») ((c .before .before .before .before .before .before .before .before .before .before .before .before .before .before .before .before .before .before .before .before .before .before .before .before .before .before .before .before .before .before .before .args .alarm) .temperatures)) ((c .before .before .before .before .before .before .before .before .before .before .before .before .before .before .before .before .before .before .before .before .before .before .before .before .before .before .before .before .before .before .before .args .alarm) .«charge_current» ∷ [] ++ ((c .before .before .before .before .before .before .before .before .before .before .before .before .before .before .before .before .before .before .before .before .before .before .before .before .before .before .before .before .before .before .before .args .alarm) .«module_voltage» ∷ [] ++ ((c .before .before .before .before .before .before .before .before .before .before .before .before .before .before .before .before .before .before .before .before .before .before .before .before .before .before .before .before .before .before .before .args .alarm) .«discharge_current» ∷ [] ++ ((c .before .before .before .before .before .before .before .before .before .before .before .before .before .before .before .before .before .before .before .before .before .before .before .before .before .before .before .before .before .before .before .args .alarm) .status)))) r1 p1 (c .before .before .before .before .before .before .before .before .before .before .before .before .before .before .before .before .before .before .before .put-codes2 .kept .0) in
-    let f2 = room-first ((c .before .before .before .before .before .before .before .before .before .before .before .before .before .before .before .before .before .before .before .before .before .before .before .before .before .before .before .before .before .before .before .args .alarm) .«charge_current» ∷ []) ((c .before .before .before .before .before .before .before .before .before .before .before .before .before .before .before .before .before .before .before .before .before .before .before .before .before .before .before .before .before .before .before .args .alarm) .«module_voltage» ∷ [] ++ ((c .before .before .before .before .before .before .before .before .before .before .before .before .before .before .before .before .before .before .before .before .before .before .before .before .before .before .before .before .before .before .before .args .alarm) .«discharge_current» ∷ [] ++ ((c .before .before .before .before .before .before .before .before .before .before .before .before .before .before .before .before .before .before .before .before .before .before .before .before .before .before .before .before .before .before .before .args .alarm) .status))) r2 in
-    let p2 = (c .before .before .before .before .before .before .before .before .before .before .before .before .before .before .before .put .ensures) in
-    let r3 = room-rest ((c .before .before .before .before .before .before .before .before .before .before .before .before .before .before .before .before .before .before .before .before .before .before .before .before .before .before .before .before .before .before .before .args .alarm) .«charge_current» ∷ []) ((c .before .before .before .before .before .before .before .before .before .before .before .before .before .before .before .before .before .before .before .before .before .before .before .before .before .before .before .before .before .before .before .args .alarm) .«module_voltage» ∷ [] ++ ((c .before .before .before .before .before .before .before .before .before .before .before .before .before .before .before .before .before .before .before .before .before .before .before .before .before .before .before .before .before .before .before .args .alarm) .«discharge_current» ∷ [] ++ ((c .before .before .before .before .before .before .before .before .before .before .before .before .before .before .before .before .before .before .before .before .before .before .before .before .before .before .before .before .before .before .before .args .alarm) .status))) r2 p2 (c .before .before .before .before .before .before .before .before .before .before .before .before .before .before .before .put .kept .0) in
-    let f3 = room-first ((c .before .before .before .before .before .before .before .before .before .before .before .before .before .before .before .before .before .before .before .before .before .before .before .before .before .before .before .before .before .before .before .args .alarm) .«module_voltage» ∷ []) ((c .before .before .before .before .before .before .before .before .before .before .before .before .before .before .before .before .before .before .before .before .before .before .before .before .before .before .before .before .before .before .before .args .alarm) .«discharge_current» ∷ [] ++ ((c .before .before .before .before .before .before .before .before .before .before .before .before .before .before .before .before .before .before .before .before .before .before .before .before .before .before .before .before .before .before .before .args .alarm) .status)) r3 in
-    let p3 = (c .before .before .before .before .before .before .before .before .before .before .before .put2 .ensures) in
-    let r4 = room-rest ((c .before .before .before .before .before .before .before .before .before .before .before .before .before .before .before .before .before .before .before .before .before .before .before .before .before .before .before .before .before .before .before .args .alarm) .«module_voltage» ∷ []) ((c .before .before .before .before .before .before .before .before .before .before .before .before .before .before .before .before .before .before .before .before .before .before .before .before .before .before .before .before .before .before .before .args .alarm) .«discharge_current» ∷ [] ++ ((c .before .before .before .before .before .before .before .before .before .before .before .before .before .before .before .before .before .before .before .before .before .before .before .before .before .before .before .before .before .before .before .args .alarm) .status)) r3 p3 (c .before .before .before .before .before .before .before .before .before .before .before .put2 .kept .0) in
-    let f4 = room-first ((c .before .before .before .before .before .before .before .before .before .before .before .before .before .before .before .before .before .before .before .before .before .before .before .before .before .before .before .before .before .before .before .args .alarm) .«discharge_current» ∷ []) ((c .before .before .before .before .before .before .before .before .before .before .before .before .before .before .before .before .before .before .before .before .before .before .before .before .before .before .before .before .before .before .before .args .alarm) .status) r4 in
-    let p4 = (c .before .before .before .before .before .before .before .put3 .ensures) in
-    let r5 = room-rest ((c .before .before .before .before .before .before .before .before .before .before .before .before .before .before .before .before .before .before .before .before .before .before .before .before .before .before .before .before .before .before .before .args .alarm) .«discharge_current» ∷ []) ((c .before .before .before .before .before .before .before .before .before .before .before .before .before .before .before .before .before .before .before .before .before .before .before .before .before .before .before .before .before .before .before .args .alarm) .status) r4 p4 (c .before .before .before .before .before .before .before .put3 .kept .0) in
-    let p5 = (c .before .before .put-all .ensures) in
-    rw (← text (c .before .before .before .before .before .before .before .before .before .before .before .before .before .before .before .before .before .before .before .before .before .before .before .before .before .before .before .before .before .before .before .args .alarm)) at (put-then f0 p0 (put-then f1 p1 (put-then f2 p2 (put-then f3 p3 (put-then f4 p4 p5)))))
+    let start = c .before .before .before .before .before .before .before .before .before .before .before .before .before .before .before .before .before .before .before .before .before .before .before .before .before .before .before .before .before .before .before in
+    let the-alarm = start .args .alarm in
+    let put-codes = c .before .before .before .before .before .before .before .before .before .before .before .before .before .before .before .before .before .before .before .before .before .before .before .before .put-codes in
+    let put-codes2 = c .before .before .before .before .before .before .before .before .before .before .before .before .before .before .before .before .before .before .before .put-codes2 in
+    let put = c .before .before .before .before .before .before .before .before .before .before .before .before .before .before .before .put in
+    let put2 = c .before .before .before .before .before .before .before .before .before .before .before .put2 in
+    let put3 = c .before .before .before .before .before .before .before .put3 in
+    let r0 = rw (text the-alarm) at (start .pre .1) in
+    let f0 = room-first (codesText (the-alarm .«cell_count») (the-alarm .cells)) (codesText (the-alarm .«temperature_count») (the-alarm .temperatures) ++ (the-alarm .«charge_current» ∷ [] ++ (the-alarm .«module_voltage» ∷ [] ++ (the-alarm .«discharge_current» ∷ [] ++ (the-alarm .status))))) r0 in
+    let p0 = put-codes .ensures in
+    let r1 = room-rest (codesText (the-alarm .«cell_count») (the-alarm .cells)) (codesText (the-alarm .«temperature_count») (the-alarm .temperatures) ++ (the-alarm .«charge_current» ∷ [] ++ (the-alarm .«module_voltage» ∷ [] ++ (the-alarm .«discharge_current» ∷ [] ++ (the-alarm .status))))) r0 p0 (put-codes .kept .0) in
+    let f1 = room-first (codesText (the-alarm .«temperature_count») (the-alarm .temperatures)) (the-alarm .«charge_current» ∷ [] ++ (the-alarm .«module_voltage» ∷ [] ++ (the-alarm .«discharge_current» ∷ [] ++ (the-alarm .status)))) r1 in
+    let p1 = put-codes2 .ensures in
+    let r2 = room-rest (codesText (the-alarm .«temperature_count») (the-alarm .temperatures)) (the-alarm .«charge_current» ∷ [] ++ (the-alarm .«module_voltage» ∷ [] ++ (the-alarm .«discharge_current» ∷ [] ++ (the-alarm .status)))) r1 p1 (put-codes2 .kept .0) in
+    let f2 = room-first (the-alarm .«charge_current» ∷ []) (the-alarm .«module_voltage» ∷ [] ++ (the-alarm .«discharge_current» ∷ [] ++ (the-alarm .status))) r2 in
+    let p2 = put .ensures in
+    let r3 = room-rest (the-alarm .«charge_current» ∷ []) (the-alarm .«module_voltage» ∷ [] ++ (the-alarm .«discharge_current» ∷ [] ++ (the-alarm .status))) r2 p2 (put .kept .0) in
+    let f3 = room-first (the-alarm .«module_voltage» ∷ []) (the-alarm .«discharge_current» ∷ [] ++ (the-alarm .status)) r3 in
+    let p3 = put2 .ensures in
+    let r4 = room-rest (the-alarm .«module_voltage» ∷ []) (the-alarm .«discharge_current» ∷ [] ++ (the-alarm .status)) r3 p3 (put2 .kept .0) in
+    let f4 = room-first (the-alarm .«discharge_current» ∷ []) (the-alarm .status) r4 in
+    let p4 = put3 .ensures in
+    let p5 = c .before .before .put-all .ensures in
+    rw (← text the-alarm) at (put-then f0 p0 (put-then f1 p1 (put-then f2 p2 (put-then f3 p3 (put-then f4 p4 p5)))))
 
 pub put-alarm-spec : {M : Type 1} → statement M
 put-alarm-spec =

@@ -1,11 +1,9 @@
 -- 33, then 32, then flag, Command and the record after them.
-use mathlib.Core.Bool.{true, false, _&&_}
+use mathlib.Core.Bool.{true, _&&_}
 use mathlib.Core.List.{[], _∷_, _++_}
 use mathlib.Core.Path.{_≡_, sym, _∙_}
 use Prim.Native.Nat.{_+_, _-_}
 use native.Mathlib.Omega.{arith}
-use lib.ListN.{length, take}
-use lib.Dec.{T}
 use borrow.Author.Tests.{not-true, not-false}
 use mir.Val.{Fits}
 use mir.Syntax.{w8}
@@ -26,7 +24,11 @@ is-address-requires c κs = search needs
 
 returns : tie.Need-returns
 unfolding alarmInfo
-returns c = writing-fault 33 (alarmInfo ((c .before .before .before .args .given) .adr) .put (((c .before .before .before .args .flag), ((c .before .before .before .args .given) .adr)), ((c .before .before .before .args .given) .alarm))) (c .before .before .before .args .out .now) (isAddress ((c .before .before .before .args .given) .adr) && alarmInfo ((c .before .before .before .args .given) .adr) .ok (((c .before .before .before .args .flag), ((c .before .before .before .args .given) .adr)), ((c .before .before .before .args .given) .alarm))) (not-address ((c .before .before .before .args .given) .adr) (alarmInfo ((c .before .before .before .args .given) .adr) .ok (((c .before .before .before .args .flag), ((c .before .before .before .args .given) .adr)), ((c .before .before .before .args .given) .alarm))) (sym (c .before .is-address .ensures) ∙ not-true _ (c .if1 .taken)))
+returns c =
+    let start = c .before .before .before in
+    let given = start .args .given in
+    let flag = start .args .flag in
+    writing-fault 33 (alarmInfo (given .adr) .put ((flag, (given .adr)), (given .alarm))) (start .args .out .now) (isAddress (given .adr) && alarmInfo (given .adr) .ok ((flag, (given .adr)), (given .alarm))) (not-address (given .adr) (alarmInfo (given .adr) .ok ((flag, (given .adr)), (given .alarm))) (sym (c .before .is-address .ensures) ∙ not-true _ (c .if1 .taken)))
 
 fine-alarm-requires : tie.Need-fine-alarm-requires
 fine-alarm-requires c κs = search needs
@@ -34,10 +36,13 @@ fine-alarm-requires c κs = search needs
 returns-2 : tie.Need-returns-2
 unfolding alarmInfo
 returns-2 c =
-    let h : Fits w8 ((c .before .before .before .before .before .before .args .given) .adr) = search needs in
-    let k : Fits w8 (c .before .before .before .before .before .before .args .flag) = search needs in
+    let start = c .before .before .before .before .before .before in
+    let given = start .args .given in
+    let flag = start .args .flag in
+    let h : Fits w8 (given .adr) = search needs in
+    let k : Fits w8 flag = search needs in
     let e = sym (c .before .before .before .before .is-address .ensures) ∙ not-false _ (c .before .before .before .if1 .left) in
-    writing-fault 33 (alarmInfo ((c .before .before .before .before .before .before .args .given) .adr) .put (((c .before .before .before .before .before .before .args .flag), ((c .before .before .before .before .before .before .args .given) .adr)), ((c .before .before .before .before .before .before .args .given) .alarm))) (c .before .before .before .before .before .before .args .out .now) (isAddress ((c .before .before .before .before .before .before .args .given) .adr) && alarmInfo ((c .before .before .before .before .before .before .args .given) .adr) .ok (((c .before .before .before .before .before .before .args .flag), ((c .before .before .before .before .before .before .args .given) .adr)), ((c .before .before .before .before .before .before .args .given) .alarm))) (flag-not ((c .before .before .before .before .before .before .args .given) .adr) alarm ((c .before .before .before .before .before .before .args .given) .alarm) e (h .fits) (c .before .before .before .before .before .before .args .flag) (k .fits) (sym (c .before .fine-alarm .ensures) ∙ not-true _ (c .if2 .taken)))
+    writing-fault 33 (alarmInfo (given .adr) .put ((flag, (given .adr)), (given .alarm))) (start .args .out .now) (isAddress (given .adr) && alarmInfo (given .adr) .ok ((flag, (given .adr)), (given .alarm))) (flag-not (given .adr) alarm (given .alarm) e (h .fits) flag (k .fits) (sym (c .before .fine-alarm .ensures) ∙ not-true _ (c .if2 .taken)))
 
 alarm-size-requires : tie.Need-alarm-size-requires
 alarm-size-requires c κs = search needs
@@ -51,13 +56,18 @@ add-if3 c =
 returns-3 : tie.Need-returns-3
 unfolding alarmInfo
 returns-3 c =
-    let h : Fits w8 ((c .before .before .before .before .before .before .before .before .args .given) .adr) = search needs in
-    let k : Fits w8 (c .before .before .before .before .before .before .before .before .args .flag) = search needs in
-    let e = sym (c .before .before .before .before .before .before .is-address .ensures) ∙ not-false _ (c .before .before .before .before .before .if1 .left) in
-    let y : alarm .ok ((c .before .before .before .before .before .before .before .before .args .given) .alarm) ≡ true = sym (c .before .before .before .fine-alarm .ensures) ∙ not-false _ (c .before .before .if2 .left) in
-    let z = size ((c .before .before .before .before .before .before .before .before .args .given) .alarm) y ∙ sym (c .before .alarm-size .ensures) in
-    let fine = flag-led ((c .before .before .before .before .before .before .before .before .args .given) .adr) alarm ((c .before .before .before .before .before .before .before .before .args .given) .alarm) e (h .fits) (c .before .before .before .before .before .before .before .before .args .flag) (k .fits) y in
-    writing-short 33 (alarmInfo ((c .before .before .before .before .before .before .before .before .args .given) .adr) .put (((c .before .before .before .before .before .before .before .before .args .flag), ((c .before .before .before .before .before .before .before .before .args .given) .adr)), ((c .before .before .before .before .before .before .before .before .args .given) .alarm))) (c .before .before .before .before .before .before .before .before .args .out .now) (isAddress ((c .before .before .before .before .before .before .before .before .args .given) .adr) && alarmInfo ((c .before .before .before .before .before .before .before .before .args .given) .adr) .ok (((c .before .before .before .before .before .before .before .before .args .flag), ((c .before .before .before .before .before .before .before .before .args .given) .adr)), ((c .before .before .before .before .before .before .before .before .args .given) .alarm))) fine (omega (arith, z, c .if3 .taken))
+    let start = c .before .before .before .before .before .before .before .before in
+    let given = start .args .given in
+    let flag = start .args .flag in
+    let is-address = c .before .before .before .before .before .before .is-address in
+    let if1 = c .before .before .before .before .before .if1 in
+    let h : Fits w8 (given .adr) = search needs in
+    let k : Fits w8 flag = search needs in
+    let e = sym (is-address .ensures) ∙ not-false _ (if1 .left) in
+    let y : alarm .ok (given .alarm) ≡ true = sym (c .before .before .before .fine-alarm .ensures) ∙ not-false _ (c .before .before .if2 .left) in
+    let z = size (given .alarm) y ∙ sym (c .before .alarm-size .ensures) in
+    let fine = flag-led (given .adr) alarm (given .alarm) e (h .fits) flag (k .fits) y in
+    writing-short 33 (alarmInfo (given .adr) .put ((flag, (given .adr)), (given .alarm))) (start .args .out .now) (isAddress (given .adr) && alarmInfo (given .adr) .ok ((flag, (given .adr)), (given .alarm))) fine (omega (arith, z, c .if3 .taken))
 
 put-requires : tie.Need-put-requires
 put-requires c κs = search needs
@@ -67,16 +77,23 @@ put-requires-2 c κs = search needs
 
 put-alarm-requires : tie.Need-put-alarm-requires
 put-alarm-requires c κs =
-    let y : alarm .ok ((c .before .before .before .before .before .before .before .before .before .before .before .before .before .before .before .before .before .args .given) .alarm) ≡ true = sym (c .before .before .before .before .before .before .before .before .before .before .before .before .fine-alarm .ensures) ∙ not-false _ (c .before .before .before .before .before .before .before .before .before .before .before .if2 .left) in
-    let z = size ((c .before .before .before .before .before .before .before .before .before .before .before .before .before .before .before .before .before .args .given) .alarm) y ∙ sym (c .before .before .before .before .before .before .before .before .before .before .alarm-size .ensures) in
-    let r : Room (c .before .before .before .before .before .before .before .before .before .before .before .before .before .before .before .before .before .args .out .now) 0 (((c .before .before .before .before .before .before .before .before .before .before .before .before .before .before .before .before .before .args .flag) ∷ []) ++ ((((c .before .before .before .before .before .before .before .before .before .before .before .before .before .before .before .before .before .args .given) .adr) ∷ []) ++ alarm .put ((c .before .before .before .before .before .before .before .before .before .before .before .before .before .before .before .before .before .args .given) .alarm))) = record { fits = omega (arith, z, c .before .before .before .before .before .before .before .before .before .if3 .left) } in
+    let start = c .before .before .before .before .before .before .before .before .before .before .before .before .before .before .before .before .before in
+    let given = start .args .given in
+    let flag = start .args .flag in
+    let fine-alarm = c .before .before .before .before .before .before .before .before .before .before .before .before .fine-alarm in
+    let if2 = c .before .before .before .before .before .before .before .before .before .before .before .if2 in
+    let alarm-size = c .before .before .before .before .before .before .before .before .before .before .alarm-size in
+    let if3 = c .before .before .before .before .before .before .before .before .before .if3 in
+    let put = c .before .before .before .before .before .before .before .put in
+    let put2 = c .before .before .before .put2 in
+    let y : alarm .ok (given .alarm) ≡ true = sym (fine-alarm .ensures) ∙ not-false _ (if2 .left) in
+    let z = size (given .alarm) y ∙ sym (alarm-size .ensures) in
+    let r : Room (start .args .out .now) 0 ((flag ∷ []) ++ (((given .adr) ∷ []) ++ alarm .put (given .alarm))) = record { fits = omega (arith, z, if3 .left) } in
     let r0 = r in
-    let f0 = room-first ((c .before .before .before .before .before .before .before .before .before .before .before .before .before .before .before .before .before .args .flag) ∷ []) (((c .before .before .before .before .before .before .before .before .before .before .before .before .before .before .before .before .before .args .given) .adr) ∷ [] ++ (alarm .put ((c .before .before .before .before .before .before .before .before .before .before .before .before .before .before .before .before .before .args .given) .alarm))) r0 in
-    let p0 = (c .before .before .before .before .before .before .before .put .ensures) in
-    let r1 = room-rest ((c .before .before .before .before .before .before .before .before .before .before .before .before .before .before .before .before .before .args .flag) ∷ []) (((c .before .before .before .before .before .before .before .before .before .before .before .before .before .before .before .before .before .args .given) .adr) ∷ [] ++ (alarm .put ((c .before .before .before .before .before .before .before .before .before .before .before .before .before .before .before .before .before .args .given) .alarm))) r0 p0 (c .before .before .before .before .before .before .before .put .kept .0) in
-    let f1 = room-first (((c .before .before .before .before .before .before .before .before .before .before .before .before .before .before .before .before .before .args .given) .adr) ∷ []) (alarm .put ((c .before .before .before .before .before .before .before .before .before .before .before .before .before .before .before .before .before .args .given) .alarm)) r1 in
-    let p1 = (c .before .before .before .put2 .ensures) in
-    let r2 = room-rest (((c .before .before .before .before .before .before .before .before .before .before .before .before .before .before .before .before .before .args .given) .adr) ∷ []) (alarm .put ((c .before .before .before .before .before .before .before .before .before .before .before .before .before .before .before .before .before .args .given) .alarm)) r1 p1 (c .before .before .before .put2 .kept .0) in
+    let p0 = put .ensures in
+    let r1 = room-rest (flag ∷ []) ((given .adr) ∷ [] ++ (alarm .put (given .alarm))) r0 p0 (put .kept .0) in
+    let p1 = put2 .ensures in
+    let r2 = room-rest ((given .adr) ∷ []) (alarm .put (given .alarm)) r1 p1 (put2 .kept .0) in
     (y, r2)
 
 same-length : tie.Need-same-length
@@ -85,22 +102,33 @@ same-length c = search needs
 returns-4 : tie.Need-returns-4
 unfolding alarmInfo
 returns-4 c =
-    let h : Fits w8 ((c .before .before .before .before .before .before .before .before .before .before .before .before .before .before .before .before .before .before .before .before .args .given) .adr) = search needs in
-    let k : Fits w8 (c .before .before .before .before .before .before .before .before .before .before .before .before .before .before .before .before .before .before .before .before .args .flag) = search needs in
-    let e = sym (c .before .before .before .before .before .before .before .before .before .before .before .before .before .before .before .before .before .before .is-address .ensures) ∙ not-false _ (c .before .before .before .before .before .before .before .before .before .before .before .before .before .before .before .before .before .if1 .left) in
-    let y : alarm .ok ((c .before .before .before .before .before .before .before .before .before .before .before .before .before .before .before .before .before .before .before .before .args .given) .alarm) ≡ true = sym (c .before .before .before .before .before .before .before .before .before .before .before .before .before .before .before .fine-alarm .ensures) ∙ not-false _ (c .before .before .before .before .before .before .before .before .before .before .before .before .before .before .if2 .left) in
-    let z = size ((c .before .before .before .before .before .before .before .before .before .before .before .before .before .before .before .before .before .before .before .before .args .given) .alarm) y ∙ sym (c .before .before .before .before .before .before .before .before .before .before .before .before .before .alarm-size .ensures) in
-    let fine = flag-led ((c .before .before .before .before .before .before .before .before .before .before .before .before .before .before .before .before .before .before .before .before .args .given) .adr) alarm ((c .before .before .before .before .before .before .before .before .before .before .before .before .before .before .before .before .before .before .before .before .args .given) .alarm) e (h .fits) (c .before .before .before .before .before .before .before .before .before .before .before .before .before .before .before .before .before .before .before .before .args .flag) (k .fits) y in
-    let r : Room (c .before .before .before .before .before .before .before .before .before .before .before .before .before .before .before .before .before .before .before .before .args .out .now) 0 (((c .before .before .before .before .before .before .before .before .before .before .before .before .before .before .before .before .before .before .before .before .args .flag) ∷ []) ++ ((((c .before .before .before .before .before .before .before .before .before .before .before .before .before .before .before .before .before .before .before .before .args .given) .adr) ∷ []) ++ alarm .put ((c .before .before .before .before .before .before .before .before .before .before .before .before .before .before .before .before .before .before .before .before .args .given) .alarm))) = record { fits = omega (arith, z, c .before .before .before .before .before .before .before .before .before .before .before .before .if3 .left) } in
+    let start = c .before .before .before .before .before .before .before .before .before .before .before .before .before .before .before .before .before .before .before .before in
+    let given = start .args .given in
+    let flag = start .args .flag in
+    let out = start .args .out .now in
+    let is-address = c .before .before .before .before .before .before .before .before .before .before .before .before .before .before .before .before .before .before .is-address in
+    let if1 = c .before .before .before .before .before .before .before .before .before .before .before .before .before .before .before .before .before .if1 in
+    let fine-alarm = c .before .before .before .before .before .before .before .before .before .before .before .before .before .before .before .fine-alarm in
+    let if2 = c .before .before .before .before .before .before .before .before .before .before .before .before .before .before .if2 in
+    let alarm-size = c .before .before .before .before .before .before .before .before .before .before .before .before .before .alarm-size in
+    let if3 = c .before .before .before .before .before .before .before .before .before .before .before .before .if3 in
+    let put = c .before .before .before .before .before .before .before .before .before .before .put in
+    let put2 = c .before .before .before .before .before .before .put2 in
+    let h : Fits w8 (given .adr) = search needs in
+    let k : Fits w8 flag = search needs in
+    let e = sym (is-address .ensures) ∙ not-false _ (if1 .left) in
+    let y : alarm .ok (given .alarm) ≡ true = sym (fine-alarm .ensures) ∙ not-false _ (if2 .left) in
+    let z = size (given .alarm) y ∙ sym (alarm-size .ensures) in
+    let fine = flag-led (given .adr) alarm (given .alarm) e (h .fits) flag (k .fits) y in
+    let r : Room out 0 ((flag ∷ []) ++ (((given .adr) ∷ []) ++ alarm .put (given .alarm))) = record { fits = omega (arith, z, if3 .left) } in
     let r0 = r in
-    let f0 = room-first ((c .before .before .before .before .before .before .before .before .before .before .before .before .before .before .before .before .before .before .before .before .args .flag) ∷ []) (((c .before .before .before .before .before .before .before .before .before .before .before .before .before .before .before .before .before .before .before .before .args .given) .adr) ∷ [] ++ (alarm .put ((c .before .before .before .before .before .before .before .before .before .before .before .before .before .before .before .before .before .before .before .before .args .given) .alarm))) r0 in
-    let p0 = (c .before .before .before .before .before .before .before .before .before .before .put .ensures) in
-    let r1 = room-rest ((c .before .before .before .before .before .before .before .before .before .before .before .before .before .before .before .before .before .before .before .before .args .flag) ∷ []) (((c .before .before .before .before .before .before .before .before .before .before .before .before .before .before .before .before .before .before .before .before .args .given) .adr) ∷ [] ++ (alarm .put ((c .before .before .before .before .before .before .before .before .before .before .before .before .before .before .before .before .before .before .before .before .args .given) .alarm))) r0 p0 (c .before .before .before .before .before .before .before .before .before .before .put .kept .0) in
-    let f1 = room-first (((c .before .before .before .before .before .before .before .before .before .before .before .before .before .before .before .before .before .before .before .before .args .given) .adr) ∷ []) (alarm .put ((c .before .before .before .before .before .before .before .before .before .before .before .before .before .before .before .before .before .before .before .before .args .given) .alarm)) r1 in
-    let p1 = (c .before .before .before .before .before .before .put2 .ensures) in
-    let r2 = room-rest (((c .before .before .before .before .before .before .before .before .before .before .before .before .before .before .before .before .before .before .before .before .args .given) .adr) ∷ []) (alarm .put ((c .before .before .before .before .before .before .before .before .before .before .before .before .before .before .before .before .before .before .before .before .args .given) .alarm)) r1 p1 (c .before .before .before .before .before .before .put2 .kept .0) in
-    let p2 = (c .before .before .put-alarm .ensures) in
-    writing-all 33 (alarmInfo ((c .before .before .before .before .before .before .before .before .before .before .before .before .before .before .before .before .before .before .before .before .args .given) .adr) .put (((c .before .before .before .before .before .before .before .before .before .before .before .before .before .before .before .before .before .before .before .before .args .flag), ((c .before .before .before .before .before .before .before .before .before .before .before .before .before .before .before .before .before .before .before .before .args .given) .adr)), ((c .before .before .before .before .before .before .before .before .before .before .before .before .before .before .before .before .before .before .before .before .args .given) .alarm))) (c .before .before .before .before .before .before .before .before .before .before .before .before .before .before .before .before .before .before .before .before .args .out .now) (isAddress ((c .before .before .before .before .before .before .before .before .before .before .before .before .before .before .before .before .before .before .before .before .args .given) .adr) && alarmInfo ((c .before .before .before .before .before .before .before .before .before .before .before .before .before .before .before .before .before .before .before .before .args .given) .adr) .ok (((c .before .before .before .before .before .before .before .before .before .before .before .before .before .before .before .before .before .before .before .before .args .flag), ((c .before .before .before .before .before .before .before .before .before .before .before .before .before .before .before .before .before .before .before .before .args .given) .adr)), ((c .before .before .before .before .before .before .before .before .before .before .before .before .before .before .before .before .before .before .before .before .args .given) .alarm))) fine (omega (arith, z, c .before .before .before .before .before .before .before .before .before .before .before .before .if3 .left)) (c .before .before .put-alarm .last .0) (c .before .before .put-alarm .result)
+    let f0 = room-first (flag ∷ []) ((given .adr) ∷ [] ++ (alarm .put (given .alarm))) r0 in
+    let p0 = put .ensures in
+    let r1 = room-rest (flag ∷ []) ((given .adr) ∷ [] ++ (alarm .put (given .alarm))) r0 p0 (put .kept .0) in
+    let f1 = room-first ((given .adr) ∷ []) (alarm .put (given .alarm)) r1 in
+    let p1 = put2 .ensures in
+    let p2 = c .before .before .put-alarm .ensures in
+    writing-all 33 (alarmInfo (given .adr) .put ((flag, (given .adr)), (given .alarm))) out (isAddress (given .adr) && alarmInfo (given .adr) .ok ((flag, (given .adr)), (given .alarm))) fine (omega (arith, z, if3 .left)) (c .before .before .put-alarm .last .0) (c .before .before .put-alarm .result)
     (put-then f0 p0 (put-then f1 p1 p2))
 
 pub write-alarm-spec : {M : Type 1} → statement M

@@ -32,7 +32,11 @@ zero-analog-requires : tie.Need-zero-analog-requires Inv-loop μ-loop
 zero-analog-requires c κs = search needs
 
 loop-holds : tie.Need-loop-holds Inv-loop μ-loop
-loop-holds c = subst (λ (z : Analog). Listed analog some-analog (unhexes (c .before .before .before .args .info .now)) noAnalog 12 (c .before .before .before .args .from) (replicate 12 z) 0 (c .before .before .before .args .from)) (sym (c .zero-analog .ensures)) (listed-none analog some-analog (unhexes (c .before .before .before .args .info .now)) noAnalog 12 (c .before .before .before .args .from))
+loop-holds c =
+    let start = c .before .before .before in
+    let info = start .args .info .now in
+    let from = start .args .from in
+    subst (λ (z : Analog). Listed analog some-analog (unhexes info) noAnalog 12 from (replicate 12 z) 0 from) (sym (c .zero-analog .ensures)) (listed-none analog some-analog (unhexes info) noAnalog 12 from)
 
 no-analogs-requires : tie.Need-no-analogs-requires Inv-loop μ-loop
 no-analogs-requires c κs = search needs
@@ -40,9 +44,13 @@ no-analogs-requires c κs = search needs
 returns : tie.Need-returns Inv-loop μ-loop
 unfolding records
 returns c =
-    let h : c .before .before .before .loop .at < length (unhexes (c .before .before .before .before .before .before .before .args .info .now)) = omega (arith, c .before .before .before .before .before .byte-count .ensures) in
+    let start = c .before .before .before .before .before .before .before in
+    let info = start .args .info .now in
+    let byte-count = c .before .before .before .before .before .byte-count in
+    let loop = c .before .before .before .loop in
+    let h : loop .at < length (unhexes info) = omega (arith, byte-count .ensures) in
     ap (λ (x : AnalogsTaken). paper (x .taken) (x .count, x .analogs)) (c .no-analogs .ensures)
-    ∙ sym (ap (taken (noPlaces noAnalog) (λ (l : List Analog). (c .before .before .before .before .before .before .before .args .flag, places noAnalog l))) (listed-over analog some-analog (unhexes (c .before .before .before .before .before .before .before .args .info .now)) noAnalog 12 (c .before .before .before .before .before .before .before .args .from) (c .before .before .before .loop .inv) h (omega arith)))
+    ∙ sym (ap (taken (noPlaces noAnalog) (λ (l : List Analog). (start .args .flag, places noAnalog l))) (listed-over analog some-analog (unhexes info) noAnalog 12 (start .args .from) (loop .inv) h (omega arith)))
 
 read-analog-requires : tie.Need-read-analog-requires Inv-loop μ-loop
 read-analog-requires c κs = search needs
@@ -56,9 +64,14 @@ no-analogs-requires-2 c κs = search needs
 returns-2 : tie.Need-returns-2 Inv-loop μ-loop
 unfolding records
 returns-2 c =
-    let h : c .before .before .before .before .before .before .before .loop .at < length (unhexes (c .before .before .before .before .before .before .before .before .before .before .before .args .info .now)) = omega (arith, c .before .before .before .before .before .before .before .before .before .byte-count .ensures) in
+    let start = c .before .before .before .before .before .before .before .before .before .before .before in
+    let info = start .args .info .now in
+    let byte-count = c .before .before .before .before .before .before .before .before .before .byte-count in
+    let loop = c .before .before .before .before .before .before .before .loop in
+    let read-analog = c .before .before .before .before .read-analog in
+    let h : loop .at < length (unhexes info) = omega (arith, byte-count .ensures) in
     ap (λ (x : AnalogsTaken). paper (x .taken) (x .count, x .analogs)) (c .no-analogs2 .ensures)
-    ∙ sym (ap (taken (noPlaces noAnalog) (λ (l : List Analog). (c .before .before .before .before .before .before .before .before .before .before .before .args .flag, places noAnalog l))) (listed-stop analog some-analog (unhexes (c .before .before .before .before .before .before .before .before .before .before .before .args .info .now)) noAnalog 12 (c .before .before .before .before .before .before .before .before .before .before .before .args .from) (c .before .before .before .before .before .before .before .loop .inv) h (omega arith) (part-stopped analog noAnalog (unhexes (c .before .before .before .before .before .before .before .before .before .before .before .args .info .now)) (c .before .before .before .before .before .before .before .loop .at) (c .before .before .before .before .read-analog .result .reading) (c .before .before .before .before .read-analog .result .analog) (c .before .before .before .before .read-analog .ensures) (c .before .before .reading .given .1))))
+    ∙ sym (ap (taken (noPlaces noAnalog) (λ (l : List Analog). (start .args .flag, places noAnalog l))) (listed-stop analog some-analog (unhexes info) noAnalog 12 (start .args .from) (loop .inv) h (omega arith) (part-stopped analog noAnalog (unhexes info) (loop .at) (read-analog .result .reading) (read-analog .result .analog) (read-analog .ensures) (c .before .before .reading .given .1))))
 
 enum-known-reading-2 : tie.Need-enum-known-reading-2 Inv-loop μ-loop
 enum-known-reading-2 c = search needs
@@ -74,21 +87,35 @@ add-count c = search needs
 
 loop-less : tie.Need-loop-less Inv-loop μ-loop
 loop-less c =
-    let h : c .before .before .before .before .before .before .before .loop .at < length (unhexes (c .before .before .before .before .before .before .before .before .before .before .before .args .info .now)) = omega (arith, c .before .before .before .before .before .before .before .before .before .byte-count .ensures) in
-    let w = part-went analog noAnalog (unhexes (c .before .before .before .before .before .before .before .before .before .before .before .args .info .now)) (c .before .before .before .before .before .before .before .loop .at) (c .before .before .before .before .read-analog .result .reading) (c .before .before .before .before .read-analog .result .analog) (c .before .before .before .before .read-analog .ensures) (bytes-unhexes (c .before .before .before .before .before .before .before .before .before .before .before .args .info .now)) (c .before .before .reading2 .given .1) in
-    omega (arith, moves-on analog some-analog (unhexes (c .before .before .before .before .before .before .before .before .before .before .before .args .info .now)) (c .before .before .before .before .before .before .before .loop .at) h (bytes-unhexes (c .before .before .before .before .before .before .before .before .before .before .before .args .info .now)) (c .before .before .reading2 .given .0 .0) (w .get))
+    let start = c .before .before .before .before .before .before .before .before .before .before .before in
+    let info = start .args .info .now in
+    let byte-count = c .before .before .before .before .before .before .before .before .before .byte-count in
+    let loop = c .before .before .before .before .before .before .before .loop in
+    let read-analog = c .before .before .before .before .read-analog in
+    let h : loop .at < length (unhexes info) = omega (arith, byte-count .ensures) in
+    let w = part-went analog noAnalog (unhexes info) (loop .at) (read-analog .result .reading) (read-analog .result .analog) (read-analog .ensures) (bytes-unhexes info) (c .before .before .reading2 .given .1) in
+    omega (arith, moves-on analog some-analog (unhexes info) (loop .at) h (bytes-unhexes info) (c .before .before .reading2 .given .0 .0) (w .get))
 
 loop-again : tie.Need-loop-again Inv-loop μ-loop
 loop-again c =
-    let h : c .before .before .before .before .before .before .before .loop .at < length (unhexes (c .before .before .before .before .before .before .before .before .before .before .before .args .info .now)) = omega (arith, c .before .before .before .before .before .before .before .before .before .byte-count .ensures) in
-    let w = part-went analog noAnalog (unhexes (c .before .before .before .before .before .before .before .before .before .before .before .args .info .now)) (c .before .before .before .before .before .before .before .loop .at) (c .before .before .before .before .read-analog .result .reading) (c .before .before .before .before .read-analog .result .analog) (c .before .before .before .before .read-analog .ensures) (bytes-unhexes (c .before .before .before .before .before .before .before .before .before .before .before .args .info .now)) (c .before .before .reading2 .given .1) in
-    listed-more analog some-analog (unhexes (c .before .before .before .before .before .before .before .before .before .before .before .args .info .now)) noAnalog 12 (c .before .before .before .before .before .before .before .before .before .before .before .args .from) (c .before .before .before .before .before .before .before .loop .inv) h (omega arith) (w .get)
+    let start = c .before .before .before .before .before .before .before .before .before .before .before in
+    let info = start .args .info .now in
+    let byte-count = c .before .before .before .before .before .before .before .before .before .byte-count in
+    let loop = c .before .before .before .before .before .before .before .loop in
+    let read-analog = c .before .before .before .before .read-analog in
+    let h : loop .at < length (unhexes info) = omega (arith, byte-count .ensures) in
+    let w = part-went analog noAnalog (unhexes info) (loop .at) (read-analog .result .reading) (read-analog .result .analog) (read-analog .ensures) (bytes-unhexes info) (c .before .before .reading2 .given .1) in
+    listed-more analog some-analog (unhexes info) noAnalog 12 (start .args .from) (loop .inv) h (omega arith) (w .get)
 
 returns-3 : tie.Need-returns-3 Inv-loop μ-loop
 unfolding records
 returns-3 c =
-    ap (took (c .before .before .before .before .before .args .flag)) (listed-places analog some-analog (unhexes (c .before .before .before .before .before .args .info .now)) noAnalog 12 (c .before .before .before .before .before .args .from) (c .before .loop .inv))
-    ∙ sym (ap (taken (noPlaces noAnalog) (λ (l : List Analog). (c .before .before .before .before .before .args .flag, places noAnalog l))) (listed-end analog some-analog (unhexes (c .before .before .before .before .before .args .info .now)) noAnalog 12 (c .before .before .before .before .before .args .from) (c .before .loop .inv) (omega (arith, c .before .before .before .byte-count .ensures))))
+    let start = c .before .before .before .before .before in
+    let flag = start .args .flag in
+    let info = start .args .info .now in
+    let from = start .args .from in
+    ap (took flag) (listed-places analog some-analog (unhexes info) noAnalog 12 from (c .before .loop .inv))
+    ∙ sym (ap (taken (noPlaces noAnalog) (λ (l : List Analog). (flag, places noAnalog l))) (listed-end analog some-analog (unhexes info) noAnalog 12 from (c .before .loop .inv) (omega (arith, c .before .before .before .byte-count .ensures))))
 
 pub read-analogs-spec : {M : Type 1} → statement M
 read-analogs-spec =

@@ -51,33 +51,57 @@ no-analog-requires-3 c κs = search needs
 returns : tie.Need-returns
 unfolding analogInfo
 returns c =
-    let p = part-went (byte then command (c .before .before .before .before .before .before .before .before .before .before .before .before .args .adr)) (0, (c .before .before .before .before .before .before .before .before .before .before .before .before .args .adr)) (unhexes (c .before .before .before .before .before .before .before .before .before .before .before .before .args .info .now)) 0 (c .before .before .before .before .before .before .before .before .before .before .read-front .result .reading) (c .before .before .before .before .before .before .before .before .before .before .read-front .result .flag, (c .before .before .before .before .before .before .before .before .before .before .before .before .args .adr)) (c .before .before .before .before .before .before .before .before .before .before .read-front .ensures) (bytes-unhexes (c .before .before .before .before .before .before .before .before .before .before .before .before .args .info .now)) (c .before .before .before .before .before .before .before .before .reading12 .given .1) in
-    let q = part-went analog noAnalog (unhexes (c .before .before .before .before .before .before .before .before .before .before .before .before .args .info .now)) (c .before .before .before .before .before .before .before .before .reading12 .given .0 .0) (c .before .before .before .before .before .before .read-analog .result .reading) (c .before .before .before .before .before .before .read-analog .result .analog) (c .before .before .before .before .before .before .read-analog .ensures) (bytes-unhexes (c .before .before .before .before .before .before .before .before .before .before .before .before .args .info .now)) (c .before .before .before .before .reading22 .given .1) in
+    let start = c .before .before .before .before .before .before .before .before .before .before .before .before in
+    let adr = start .args .adr in
+    let info = start .args .info .now in
+    let read-front = c .before .before .before .before .before .before .before .before .before .before .read-front in
+    let reading12 = c .before .before .before .before .before .before .before .before .reading12 in
+    let read-analog = c .before .before .before .before .before .before .read-analog in
+    let reading22 = c .before .before .before .before .reading22 in
+    let p = part-went (byte then command adr) (0, adr) (unhexes info) 0 (read-front .result .reading) (read-front .result .flag, adr) (read-front .ensures) (bytes-unhexes info) (reading12 .given .1) in
+    let q = part-went analog noAnalog (unhexes info) (reading12 .given .0 .0) (read-analog .result .reading) (read-analog .result .analog) (read-analog .ensures) (bytes-unhexes info) (reading22 .given .1) in
     ap (λ (x : AnalogTaken). paper (x .taken) (x .analog)) (c .no-analog3 .ensures)
-    ∙ left-over noAnalog (λ (b : Analog). flagged ((c .before .before .before .before .before .before .before .before .before .before .read-front .result .flag, (c .before .before .before .before .before .before .before .before .before .before .before .before .args .adr)), b)) analog (unhexes (c .before .before .before .before .before .before .before .before .before .before .before .before .args .info .now)) (c .before .before .before .before .before .before .before .before .reading12 .given .0 .0) (c .before .before .before .before .reading22 .given .0 .0) (q .get) (omega (arith, c .before .before .byte-count .ensures))
-    ∙ first-read noAnalog flagged (byte then command (c .before .before .before .before .before .before .before .before .before .before .before .before .args .adr)) (λ x. ended analog) (unhexes (c .before .before .before .before .before .before .before .before .before .before .before .before .args .info .now)) (p .get)
+    ∙ left-over noAnalog (λ (b : Analog). flagged ((read-front .result .flag, adr), b)) analog (unhexes info) (reading12 .given .0 .0) (reading22 .given .0 .0) (q .get) (omega (arith, c .before .before .byte-count .ensures))
+    ∙ first-read noAnalog flagged (byte then command adr) (λ x. ended analog) (unhexes info) (p .get)
 
 returns-2 : tie.Need-returns-2
 unfolding analogInfo
 returns-2 c =
+    let start = c .before .before .before .before .before .before in
+    let adr = start .args .adr in
+    let info = start .args .info .now in
+    let read-front = c .before .before .before .before .read-front in
     ap (λ (x : AnalogTaken). paper (x .taken) (x .analog)) (c .no-analog .ensures)
-    ∙ first-refused noAnalog flagged (byte then command (c .before .before .before .before .before .before .args .adr)) (λ x. ended analog) (unhexes (c .before .before .before .before .before .before .args .info .now)) (part-stopped (byte then command (c .before .before .before .before .before .before .args .adr)) (0, (c .before .before .before .before .before .before .args .adr)) (unhexes (c .before .before .before .before .before .before .args .info .now)) 0 (c .before .before .before .before .read-front .result .reading) (c .before .before .before .before .read-front .result .flag, (c .before .before .before .before .before .before .args .adr)) (c .before .before .before .before .read-front .ensures) (c .before .before .reading1 .given .1))
+    ∙ first-refused noAnalog flagged (byte then command adr) (λ x. ended analog) (unhexes info) (part-stopped (byte then command adr) (0, adr) (unhexes info) 0 (read-front .result .reading) (read-front .result .flag, adr) (read-front .ensures) (c .before .before .reading1 .given .1))
 
 returns-3 : tie.Need-returns-3
 unfolding analogInfo
 returns-3 c =
-    let p = part-went (byte then command (c .before .before .before .before .before .before .before .before .before .before .args .adr)) (0, (c .before .before .before .before .before .before .before .before .before .before .args .adr)) (unhexes (c .before .before .before .before .before .before .before .before .before .before .args .info .now)) 0 (c .before .before .before .before .before .before .before .before .read-front .result .reading) (c .before .before .before .before .before .before .before .before .read-front .result .flag, (c .before .before .before .before .before .before .before .before .before .before .args .adr)) (c .before .before .before .before .before .before .before .before .read-front .ensures) (bytes-unhexes (c .before .before .before .before .before .before .before .before .before .before .args .info .now)) (c .before .before .before .before .before .before .reading12 .given .1) in
+    let start = c .before .before .before .before .before .before .before .before .before .before in
+    let adr = start .args .adr in
+    let info = start .args .info .now in
+    let read-front = c .before .before .before .before .before .before .before .before .read-front in
+    let reading12 = c .before .before .before .before .before .before .reading12 in
+    let read-analog = c .before .before .before .before .read-analog in
+    let p = part-went (byte then command adr) (0, adr) (unhexes info) 0 (read-front .result .reading) (read-front .result .flag, adr) (read-front .ensures) (bytes-unhexes info) (reading12 .given .1) in
     ap (λ (x : AnalogTaken). paper (x .taken) (x .analog)) (c .no-analog2 .ensures)
-    ∙ record-refused noAnalog (λ (b : Analog). flagged ((c .before .before .before .before .before .before .before .before .read-front .result .flag, (c .before .before .before .before .before .before .before .before .before .before .args .adr)), b)) analog (unhexes (c .before .before .before .before .before .before .before .before .before .before .args .info .now)) (c .before .before .before .before .before .before .reading12 .given .0 .0) (part-stopped analog noAnalog (unhexes (c .before .before .before .before .before .before .before .before .before .before .args .info .now)) (c .before .before .before .before .before .before .reading12 .given .0 .0) (c .before .before .before .before .read-analog .result .reading) (c .before .before .before .before .read-analog .result .analog) (c .before .before .before .before .read-analog .ensures) (c .before .before .reading2 .given .1))
-    ∙ first-read noAnalog flagged (byte then command (c .before .before .before .before .before .before .before .before .before .before .args .adr)) (λ x. ended analog) (unhexes (c .before .before .before .before .before .before .before .before .before .before .args .info .now)) (p .get)
+    ∙ record-refused noAnalog (λ (b : Analog). flagged ((read-front .result .flag, adr), b)) analog (unhexes info) (reading12 .given .0 .0) (part-stopped analog noAnalog (unhexes info) (reading12 .given .0 .0) (read-analog .result .reading) (read-analog .result .analog) (read-analog .ensures) (c .before .before .reading2 .given .1))
+    ∙ first-read noAnalog flagged (byte then command adr) (λ x. ended analog) (unhexes info) (p .get)
 
 returns-4 : tie.Need-returns-4
 unfolding analogInfo
 returns-4 c =
-    let p = part-went (byte then command (c .before .before .before .before .before .before .before .before .before .before .before .before .args .adr)) (0, (c .before .before .before .before .before .before .before .before .before .before .before .before .args .adr)) (unhexes (c .before .before .before .before .before .before .before .before .before .before .before .before .args .info .now)) 0 (c .before .before .before .before .before .before .before .before .before .before .read-front .result .reading) (c .before .before .before .before .before .before .before .before .before .before .read-front .result .flag, (c .before .before .before .before .before .before .before .before .before .before .before .before .args .adr)) (c .before .before .before .before .before .before .before .before .before .before .read-front .ensures) (bytes-unhexes (c .before .before .before .before .before .before .before .before .before .before .before .before .args .info .now)) (c .before .before .before .before .before .before .before .before .reading12 .given .1) in
-    let q = part-went analog noAnalog (unhexes (c .before .before .before .before .before .before .before .before .before .before .before .before .args .info .now)) (c .before .before .before .before .before .before .before .before .reading12 .given .0 .0) (c .before .before .before .before .before .before .read-analog .result .reading) (c .before .before .before .before .before .before .read-analog .result .analog) (c .before .before .before .before .before .before .read-analog .ensures) (bytes-unhexes (c .before .before .before .before .before .before .before .before .before .before .before .before .args .info .now)) (c .before .before .before .before .reading22 .given .1) in
-    all-found noAnalog (λ (b : Analog). flagged ((c .before .before .before .before .before .before .before .before .before .before .read-front .result .flag, (c .before .before .before .before .before .before .before .before .before .before .before .before .args .adr)), b)) analog (unhexes (c .before .before .before .before .before .before .before .before .before .before .before .before .args .info .now)) (c .before .before .before .before .before .before .before .before .reading12 .given .0 .0) (c .before .before .before .before .reading22 .given .0 .0) (q .get) (omega (arith, c .before .before .byte-count .ensures))
-    ∙ first-read noAnalog flagged (byte then command (c .before .before .before .before .before .before .before .before .before .before .before .before .args .adr)) (λ x. ended analog) (unhexes (c .before .before .before .before .before .before .before .before .before .before .before .before .args .info .now)) (p .get)
+    let start = c .before .before .before .before .before .before .before .before .before .before .before .before in
+    let adr = start .args .adr in
+    let info = start .args .info .now in
+    let read-front = c .before .before .before .before .before .before .before .before .before .before .read-front in
+    let reading12 = c .before .before .before .before .before .before .before .before .reading12 in
+    let read-analog = c .before .before .before .before .before .before .read-analog in
+    let reading22 = c .before .before .before .before .reading22 in
+    let p = part-went (byte then command adr) (0, adr) (unhexes info) 0 (read-front .result .reading) (read-front .result .flag, adr) (read-front .ensures) (bytes-unhexes info) (reading12 .given .1) in
+    let q = part-went analog noAnalog (unhexes info) (reading12 .given .0 .0) (read-analog .result .reading) (read-analog .result .analog) (read-analog .ensures) (bytes-unhexes info) (reading22 .given .1) in
+    all-found noAnalog (λ (b : Analog). flagged ((read-front .result .flag, adr), b)) analog (unhexes info) (reading12 .given .0 .0) (reading22 .given .0 .0) (q .get) (omega (arith, c .before .before .byte-count .ensures))
+    ∙ first-read noAnalog flagged (byte then command adr) (λ x. ended analog) (unhexes info) (p .get)
 
 pub take-analog-spec : {M : Type 1} → statement M
 take-analog-spec =

@@ -4,7 +4,6 @@ use Prim.Native.Nat.{_-_}
 use native.Mathlib.Omega.{arith}
 use lib.ListN.{length, drop}
 use lib.IntN.{ℤ}
-use lib.Dec.{T}
 use mir.Val.{toZ}
 use borrow.Author.Needs.{needs}
 use mir.Facts.{toZ-ofZ}
@@ -12,7 +11,7 @@ use mir.Syntax.{w16}
 use Rattle.codec.specs.Numbers.{word, signed}
 use Rattle.readers.proofs.Steps.{field-went, field-ended}
 use Rattle.codec.proofs.Rows.{Filled, filled-none, filled-more, filled-stop, filled-all}
-use Rattle.codec.specs.Codec.{byte, got, no}
+use Rattle.codec.specs.Codec.{got}
 use Rattle.hex.proofs.Laws.{bytes-unhexes}
 use Rattle.hex.specs.Hex.{unhexes}
 use Rattle.analog_reader.proofs.fill_signed.Statement.{statement}
@@ -41,8 +40,11 @@ same-length c = c .before .before .before .before .loop .inv .long
 
 returns : tie.Need-returns Inv-loop μ-loop
 returns c =
-    let e = field-ended word (unhexes (c .before .before .before .before .before .before .args .info .now)) (c .before .before .before .before .loop .at) (c .before .before .field .result) (c .before .before .field .ensures) (c .enum-told .given .1) in
-    filled-stop signed (unhexes (c .before .before .before .before .before .before .args .info .now)) (c .before .before .before .before .before .before .args .from) (length (c .before .before .before .before .before .before .args .list .now)) (c .before .before .before .before .loop .inv) (omega (arith, c .before .before .before .before .loop .inv .long)) (rw e)
+    let start = c .before .before .before .before .before .before in
+    let info = start .args .info .now in
+    let loop = c .before .before .before .before .loop in
+    let e = field-ended word (unhexes info) (loop .at) (c .before .before .field .result) (c .before .before .field .ensures) (c .enum-told .given .1) in
+    filled-stop signed (unhexes info) (start .args .from) (length (start .args .list .now)) (loop .inv) (omega (arith, loop .inv .long)) (rw e)
 
 signed-requires : tie.Need-signed-requires Inv-loop μ-loop
 signed-requires c κs = search needs
@@ -57,20 +59,28 @@ add-i : tie.Need-add-i Inv-loop μ-loop
 add-i c = search needs
 
 loop-less : tie.Need-loop-less Inv-loop μ-loop
-loop-less c = omega (arith, c .before .before .before .before .before .before .loop .inv .long)
+loop-less c =
+    let loop = c .before .before .before .before .before .before .loop in
+    omega (arith, loop .inv .long)
 
 loop-again : tie.Need-loop-again Inv-loop μ-loop
 loop-again c =
-    let w = field-went word (unhexes (c .before .before .before .before .before .before .before .before .args .info .now)) (c .before .before .before .before .before .before .loop .at) (c .before .before .before .before .field .result) (c .before .before .before .before .field .ensures) (bytes-unhexes (c .before .before .before .before .before .before .before .before .args .info .now)) (c .before .before .word .given .1) in
+    let start = c .before .before .before .before .before .before .before .before in
+    let info = start .args .info .now in
+    let loop = c .before .before .before .before .before .before .loop in
+    let field = c .before .before .before .before .field in
+    let w = field-went word (unhexes info) (loop .at) (field .result) (field .ensures) (bytes-unhexes info) (c .before .before .word .given .1) in
     let v = toZ-ofZ {w = w16} {z = c .signed .result} (search needs) ∙ c .signed .ensures in
-    let e : signed .get (drop (c .before .before .before .before .before .before .loop .at) (unhexes (c .before .before .before .before .before .before .before .before .args .info .now))) ≡ got (toZ w16 (c .before .before .word .given .0 .0)) (drop (c .before .before .word .given .0 .1 .0) (unhexes (c .before .before .before .before .before .before .before .before .args .info .now))) = rw (w .get) in
-    filled-more signed (unhexes (c .before .before .before .before .before .before .before .before .args .info .now)) (c .before .before .before .before .before .before .before .before .args .from) (length (c .before .before .before .before .before .before .before .before .args .list .now)) (c .before .before .before .before .before .before .loop .inv) (omega (arith, c .before .before .before .before .before .before .loop .inv .long)) (e ∙ ap (λ (z : ℤ). got z (drop (c .before .before .word .given .0 .1 .0) (unhexes (c .before .before .before .before .before .before .before .before .args .info .now)))) (sym v)) (w .place)
+    let e : signed .get (drop (loop .at) (unhexes info)) ≡ got (toZ w16 (c .before .before .word .given .0 .0)) (drop (c .before .before .word .given .0 .1 .0) (unhexes info)) = rw (w .get) in
+    filled-more signed (unhexes info) (start .args .from) (length (start .args .list .now)) (loop .inv) (omega (arith, loop .inv .long)) (e ∙ ap (λ (z : ℤ). got z (drop (c .before .before .word .given .0 .1 .0) (unhexes info))) (sym v)) (w .place)
 
 same-length-2 : tie.Need-same-length-2 Inv-loop μ-loop
 same-length-2 c = c .before .loop .inv .long
 
 returns-2 : tie.Need-returns-2 Inv-loop μ-loop
-returns-2 c = filled-all signed (unhexes (c .before .before .before .args .info .now)) (c .before .before .before .args .from) (length (c .before .before .before .args .list .now)) (c .before .loop .inv) (omega (arith, c .before .loop .inv .long))
+returns-2 c =
+    let start = c .before .before .before in
+    filled-all signed (unhexes (start .args .info .now)) (start .args .from) (length (start .args .list .now)) (c .before .loop .inv) (omega (arith, c .before .loop .inv .long))
 
 pub fill-signed-spec : {M : Type 1} → statement M
 fill-signed-spec =

@@ -1,11 +1,9 @@
 -- The count, then as many words as it says, in front of zeros.
-use mathlib.Core.List.{List}
 use mathlib.Core.Path.{_≡_, sym, ap, _∙_}
 use Prim.Native.Nat.{_-_}
 use native.Mathlib.Omega.{arith}
 use lib.Seq.{length-take-le}
 use lib.ListN.{take, length}
-use lib.Dec.{T}
 use borrow.Author.Needs.{needs}
 use Rattle.analog_reader.specs.declared.Temperatures.{Temperatures}
 use Rattle.analog_reader.specs.Nothing.{noList}
@@ -13,12 +11,10 @@ use Rattle.record.specs.Analog.{measured}
 use Rattle.record.specs.Zeros.{zeroSigned}
 use Rattle.codec.proofs.Counts.{count-ends, count-low, count-high, count-stops, count-goes}
 use Rattle.codec.proofs.Places.{found, stops}
-use Rattle.codec.specs.Reading.{read}
 use Rattle.codec.specs.Numbers.{signed}
 use Rattle.readers.proofs.Steps.{field-went, field-ended, list-went, list-stopped}
 use Rattle.readers.specs.Readings.{paper}
-use Rattle.codec.specs.Row.{row}
-use Rattle.codec.specs.Codec.{byte, no}
+use Rattle.codec.specs.Codec.{byte}
 use Rattle.hex.proofs.Laws.{bytes-unhexes}
 use Rattle.hex.specs.Hex.{unhexes}
 use Rattle.analog_reader.proofs.read_temperatures.Statement.{statement}
@@ -39,9 +35,13 @@ no-temperatures-requires c κs = search needs
 returns : tie.Need-returns
 unfolding measured
 returns c =
-    let e1 = field-ended byte (unhexes (c .before .before .before .before .before .args .info .now)) (c .before .before .before .before .before .args .at) (c .before .before .before .field .result) (c .before .before .before .field .ensures) (c .before .enum-told .given .1) in
+    let start = c .before .before .before .before .before in
+    let info = start .args .info .now in
+    let place = start .args .at in
+    let field = c .before .before .before .field in
+    let e1 = field-ended byte (unhexes info) place (field .result) (field .ensures) (c .before .enum-told .given .1) in
     ap (λ (x : Temperatures). paper (x .reading) (x .count, x .temperatures)) (c .no-temperatures .ensures)
-    ∙ stops (measured 8) (0, noList 8) (unhexes (c .before .before .before .before .before .args .info .now)) (c .before .before .before .before .before .args .at) (count-ends signed zeroSigned 8 (unhexes (c .before .before .before .before .before .args .info .now)) (c .before .before .before .before .before .args .at) e1)
+    ∙ stops (measured 8) (0, noList 8) (unhexes info) place (count-ends signed zeroSigned 8 (unhexes info) place e1)
 
 no-temperatures-requires-2 : tie.Need-no-temperatures-requires-2
 no-temperatures-requires-2 c κs = search needs
@@ -49,9 +49,14 @@ no-temperatures-requires-2 c κs = search needs
 returns-2 : tie.Need-returns-2
 unfolding measured
 returns-2 c =
-    let w1 = field-went byte (unhexes (c .before .before .before .before .before .before .before .args .info .now)) (c .before .before .before .before .before .before .before .args .at) (c .before .before .before .before .before .field .result) (c .before .before .before .before .before .field .ensures) (bytes-unhexes (c .before .before .before .before .before .before .before .args .info .now)) (c .before .before .before .count .given .1) in
+    let start = c .before .before .before .before .before .before .before in
+    let info = start .args .info .now in
+    let place = start .args .at in
+    let field = c .before .before .before .before .before .field in
+    let count = c .before .before .before .count in
+    let w1 = field-went byte (unhexes info) place (field .result) (field .ensures) (bytes-unhexes info) (count .given .1) in
     ap (λ (x : Temperatures). paper (x .reading) (x .count, x .temperatures)) (c .no-temperatures2 .ensures)
-    ∙ stops (measured 8) (0, noList 8) (unhexes (c .before .before .before .before .before .before .before .args .info .now)) (c .before .before .before .before .before .before .before .args .at) (count-low signed zeroSigned 8 (unhexes (c .before .before .before .before .before .before .before .args .info .now)) (c .before .before .before .before .before .before .before .args .at) (c .before .before .before .count .given .0 .0) (c .before .before .before .count .given .0 .1 .0) (w1 .get) (c .before .if1 .taken))
+    ∙ stops (measured 8) (0, noList 8) (unhexes info) place (count-low signed zeroSigned 8 (unhexes info) place (count .given .0 .0) (count .given .0 .1 .0) (w1 .get) (c .before .if1 .taken))
 
 no-temperatures-requires-3 : tie.Need-no-temperatures-requires-3
 no-temperatures-requires-3 c κs = search needs
@@ -59,9 +64,14 @@ no-temperatures-requires-3 c κs = search needs
 returns-3 : tie.Need-returns-3
 unfolding measured
 returns-3 c =
-    let w1 = field-went byte (unhexes (c .before .before .before .before .before .before .before .before .args .info .now)) (c .before .before .before .before .before .before .before .before .args .at) (c .before .before .before .before .before .before .field .result) (c .before .before .before .before .before .before .field .ensures) (bytes-unhexes (c .before .before .before .before .before .before .before .before .args .info .now)) (c .before .before .before .before .count .given .1) in
+    let start = c .before .before .before .before .before .before .before .before in
+    let info = start .args .info .now in
+    let place = start .args .at in
+    let field = c .before .before .before .before .before .before .field in
+    let count = c .before .before .before .before .count in
+    let w1 = field-went byte (unhexes info) place (field .result) (field .ensures) (bytes-unhexes info) (count .given .1) in
     ap (λ (x : Temperatures). paper (x .reading) (x .count, x .temperatures)) (c .no-temperatures3 .ensures)
-    ∙ stops (measured 8) (0, noList 8) (unhexes (c .before .before .before .before .before .before .before .before .args .info .now)) (c .before .before .before .before .before .before .before .before .args .at) (count-high signed zeroSigned 8 (unhexes (c .before .before .before .before .before .before .before .before .args .info .now)) (c .before .before .before .before .before .before .before .before .args .at) (c .before .before .before .before .count .given .0 .0) (c .before .before .before .before .count .given .0 .1 .0) (w1 .get) (c .before .before .if1 .left) (c .before .if2 .taken))
+    ∙ stops (measured 8) (0, noList 8) (unhexes info) place (count-high signed zeroSigned 8 (unhexes info) place (count .given .0 .0) (count .given .0 .1 .0) (w1 .get) (c .before .before .if1 .left) (c .before .if2 .taken))
 
 cast-n : tie.Need-cast-n
 cast-n c = search needs
@@ -90,20 +100,36 @@ cast-t19 c = search needs
 returns-4 : tie.Need-returns-4
 unfolding measured
 returns-4 c =
-    let w1 = field-went byte (unhexes (c .before .before .before .before .before .before .before .before .before .before .before .before .before .before .args .info .now)) (c .before .before .before .before .before .before .before .before .before .before .before .before .before .before .args .at) (c .before .before .before .before .before .before .before .before .before .before .before .before .field .result) (c .before .before .before .before .before .before .before .before .before .before .before .before .field .ensures) (bytes-unhexes (c .before .before .before .before .before .before .before .before .before .before .before .before .before .before .args .info .now)) (c .before .before .before .before .before .before .before .before .before .before .count .given .1) in
-    let z = length-take-le (c .before .before .before .before .before .before .before .before .before .before .count .given .0 .0) (noList 8) (omega arith) in
+    let start = c .before .before .before .before .before .before .before .before .before .before .before .before .before .before in
+    let info = start .args .info .now in
+    let place = start .args .at in
+    let field = c .before .before .before .before .before .before .before .before .before .before .before .before .field in
+    let count = c .before .before .before .before .before .before .before .before .before .before .count in
+    let if1 = c .before .before .before .before .before .before .before .before .if1 in
+    let if2 = c .before .before .before .before .before .before .before .if2 in
+    let fill-signed = c .before .before .before .before .before .fill-signed in
+    let w1 = field-went byte (unhexes info) place (field .result) (field .ensures) (bytes-unhexes info) (count .given .1) in
+    let z = length-take-le (count .given .0 .0) (noList 8) (omega arith) in
     ap (λ (x : Temperatures). paper (x .reading) (x .count, x .temperatures)) (c .no-temperatures4 .ensures)
-    ∙ stops (measured 8) (0, noList 8) (unhexes (c .before .before .before .before .before .before .before .before .before .before .before .before .before .before .args .info .now)) (c .before .before .before .before .before .before .before .before .before .before .before .before .before .before .args .at)
-    (count-stops signed zeroSigned 8 (unhexes (c .before .before .before .before .before .before .before .before .before .before .before .before .before .before .args .info .now)) (c .before .before .before .before .before .before .before .before .before .before .before .before .before .before .args .at) (c .before .before .before .before .before .before .before .before .before .before .count .given .0 .0) (c .before .before .before .before .before .before .before .before .before .before .count .given .0 .1 .0) (w1 .get) (c .before .before .before .before .before .before .before .before .if1 .left) (c .before .before .before .before .before .before .before .if2 .left) z (list-stopped signed (unhexes (c .before .before .before .before .before .before .before .before .before .before .before .before .before .before .args .info .now)) (c .before .before .before .before .before .before .before .before .before .before .count .given .0 .1 .0) (length (take (c .before .before .before .before .before .before .before .before .before .before .count .given .0 .0) (noList 8))) (c .before .before .before .before .before .fill-signed .result) (c .before .before .before .before .before .fill-signed .last .1 .1 .0) (c .before .before .before .before .before .fill-signed .ensures) (c .before .before .filled .given .1)))
+    ∙ stops (measured 8) (0, noList 8) (unhexes info) place
+    (count-stops signed zeroSigned 8 (unhexes info) place (count .given .0 .0) (count .given .0 .1 .0) (w1 .get) (if1 .left) (if2 .left) z (list-stopped signed (unhexes info) (count .given .0 .1 .0) (length (take (count .given .0 .0) (noList 8))) (fill-signed .result) (fill-signed .last .1 .1 .0) (fill-signed .ensures) (c .before .before .filled .given .1)))
 
 returns-5 : tie.Need-returns-5
 unfolding measured
 returns-5 c =
-    let w1 = field-went byte (unhexes (c .before .before .before .before .before .before .before .before .before .before .before .before .before .args .info .now)) (c .before .before .before .before .before .before .before .before .before .before .before .before .before .args .at) (c .before .before .before .before .before .before .before .before .before .before .before .field .result) (c .before .before .before .before .before .before .before .before .before .before .before .field .ensures) (bytes-unhexes (c .before .before .before .before .before .before .before .before .before .before .before .before .before .args .info .now)) (c .before .before .before .before .before .before .before .before .before .count .given .1) in
-    let z = length-take-le (c .before .before .before .before .before .before .before .before .before .count .given .0 .0) (noList 8) (omega arith) in
-    let f = list-went signed (unhexes (c .before .before .before .before .before .before .before .before .before .before .before .before .before .args .info .now)) (c .before .before .before .before .before .before .before .before .before .count .given .0 .1 .0) (length (take (c .before .before .before .before .before .before .before .before .before .count .given .0 .0) (noList 8))) (c .before .before .before .before .fill-signed .result) (c .before .before .before .before .fill-signed .last .1 .1 .0) (c .before .before .before .before .fill-signed .ensures) (c .before .filled2 .given .1) in
-    let k : length (c .before .before .before .before .fill-signed .last .1 .1 .0) ≡ (c .before .before .before .before .before .before .before .before .before .count .given .0 .0) = omega (arith, z) in
-    found (measured 8) (0, noList 8) (unhexes (c .before .before .before .before .before .before .before .before .before .before .before .before .before .args .info .now)) (c .before .before .before .before .before .before .before .before .before .before .before .before .before .args .at) (count-goes signed zeroSigned 8 (unhexes (c .before .before .before .before .before .before .before .before .before .before .before .before .before .args .info .now)) (c .before .before .before .before .before .before .before .before .before .before .before .before .before .args .at) (c .before .before .before .before .before .before .before .before .before .count .given .0 .0) (c .before .before .before .before .before .before .before .before .before .count .given .0 .1 .0) (w1 .get) (c .before .before .before .before .before .before .before .if1 .left) (c .before .before .before .before .before .before .if2 .left) z k (f .0)) (f .1 (omega (arith, z, c .before .before .before .before .before .before .before .if1 .left)))
+    let start = c .before .before .before .before .before .before .before .before .before .before .before .before .before in
+    let info = start .args .info .now in
+    let place = start .args .at in
+    let field = c .before .before .before .before .before .before .before .before .before .before .before .field in
+    let count = c .before .before .before .before .before .before .before .before .before .count in
+    let if1 = c .before .before .before .before .before .before .before .if1 in
+    let if2 = c .before .before .before .before .before .before .if2 in
+    let fill-signed = c .before .before .before .before .fill-signed in
+    let w1 = field-went byte (unhexes info) place (field .result) (field .ensures) (bytes-unhexes info) (count .given .1) in
+    let z = length-take-le (count .given .0 .0) (noList 8) (omega arith) in
+    let f = list-went signed (unhexes info) (count .given .0 .1 .0) (length (take (count .given .0 .0) (noList 8))) (fill-signed .result) (fill-signed .last .1 .1 .0) (fill-signed .ensures) (c .before .filled2 .given .1) in
+    let k : length (fill-signed .last .1 .1 .0) ≡ (count .given .0 .0) = omega (arith, z) in
+    found (measured 8) (0, noList 8) (unhexes info) place (count-goes signed zeroSigned 8 (unhexes info) place (count .given .0 .0) (count .given .0 .1 .0) (w1 .get) (if1 .left) (if2 .left) z k (f .0)) (f .1 (omega (arith, z, if1 .left)))
 
 pub read-temperatures-spec : {M : Type 1} → statement M
 read-temperatures-spec =

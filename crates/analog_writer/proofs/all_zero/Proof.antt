@@ -2,11 +2,10 @@
 use mathlib.Core.Path.{_≡_, refl, sym, _∙_}
 use Prim.Native.Nat.{zero-le, _-_, _≤_}
 use native.Mathlib.Omega.{arith}
-use lib.Dec.{T}
-use lib.ListN.{getD, length, drop, take}
+use lib.ListN.{getD, length, drop}
 use lib.IntN.{pos}
 use borrow.Author.Needs.{needs}
-use mir.Val.{Fits, SFits}
+use mir.Val.{SFits}
 use mir.Syntax.{w16}
 use Rattle.analog_writer.proofs.Lists.{is0-yes, is0-no}
 use Rattle.record.specs.Zeros.{is0}
@@ -31,7 +30,11 @@ shared-slice-copy-out-if1 : tie.Need-shared-slice-copy-out-if1 Inv-loop μ-loop
 shared-slice-copy-out-if1 c = search needs
 
 returns : tie.Need-returns Inv-loop μ-loop
-returns c = sym (c .before .before .before .loop .inv .1 ∙ every-off is0 (c .before .before .before .before .args .list .now) (c .before .before .before .loop .i) (pos 0) (omega arith) (is0-no (getD (c .before .before .before .before .args .list .now) (c .before .before .before .loop .i) (pos 0)) (c .if1 .taken)))
+returns c =
+    let start = c .before .before .before .before in
+    let list = start .args .list .now in
+    let loop = c .before .before .before .loop in
+    sym (loop .inv .1 ∙ every-off is0 list (loop .i) (pos 0) (omega arith) (is0-no (getD list (loop .i) (pos 0)) (c .if1 .taken)))
 
 add-i : tie.Need-add-i Inv-loop μ-loop
 add-i c = search needs
@@ -41,8 +44,11 @@ loop-less c = search needs
 
 loop-again : tie.Need-loop-again Inv-loop μ-loop
 loop-again c =
-    let f : SFits w16 (getD (c .before .before .before .before .args .list .now) (c .before .before .before .loop .i) (pos 0)) = search needs in
-    (omega arith, c .before .before .before .loop .inv .1 ∙ every-on is0 (c .before .before .before .before .args .list .now) (c .before .before .before .loop .i) (pos 0) (omega arith) (is0-yes (getD (c .before .before .before .before .args .list .now) (c .before .before .before .loop .i) (pos 0)) f (c .if1 .left)))
+    let start = c .before .before .before .before in
+    let list = start .args .list .now in
+    let loop = c .before .before .before .loop in
+    let f : SFits w16 (getD list (loop .i) (pos 0)) = search needs in
+    (omega arith, loop .inv .1 ∙ every-on is0 list (loop .i) (pos 0) (omega arith) (is0-yes (getD list (loop .i) (pos 0)) f (c .if1 .left)))
 
 returns-2 : tie.Need-returns-2 Inv-loop μ-loop
 returns-2 c = sym (c .before .loop .inv .1 ∙ every-end is0 (c .before .before .args .list .now) (c .before .loop .i) (omega arith))

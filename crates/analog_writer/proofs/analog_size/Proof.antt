@@ -1,11 +1,7 @@
 -- By total, as the length is said.
 use Prim.Native.Nat.{_-_}
-use lib.Dec.{leb, T}
-use lib.ListN.{take}
 use borrow.Author.Tests.{le-leb, lt-leb}
 use borrow.Author.Needs.{needs}
-use Rattle.analog_writer.proofs.Whole.{size}
-use Rattle.record.specs.Analog.{analog}
 use Rattle.analog_writer.proofs.analog_size.Statement.{statement}
 use Rattle.analog_writer.proofs.analog_size.Tie as tie
 
@@ -28,13 +24,17 @@ add-size-2 : tie.Need-add-size-2
 add-size-2 c = search needs
 
 returns : tie.Need-returns
-returns c = rw (le-leb ((c .before .before .before .before .args .analog) .total) 65000 (c .if1 .taken))
+returns c =
+    let start = c .before .before .before .before in
+    rw (le-leb ((start .args .analog) .total) 65000 (c .if1 .taken))
 
 add-result : tie.Need-add-result
 add-result c = search needs
 
 returns-2 : tie.Need-returns-2
-returns-2 c = rw (lt-leb ((c .before .before .before .before .args .analog) .total) 65000 (c .if1 .left))
+returns-2 c =
+    let start = c .before .before .before .before in
+    rw (lt-leb ((start .args .analog) .total) 65000 (c .if1 .left))
 
 pub analog-size-spec : {M : Type 1} → statement M
 analog-size-spec =

@@ -1,9 +1,7 @@
 -- The two lists and the capacities; the other fields fit by their types.
 use mathlib.Core.Bool.{true, false}
-use mathlib.Core.Path.{_≡_, sym, ap, _∙_}
+use mathlib.Core.Path.{_≡_, sym, _∙_}
 use Prim.Native.Nat.{_-_}
-use lib.Dec.{T}
-use lib.ListN.{take}
 use borrow.Author.Tests.{not-true, not-false}
 use mir.Val.{Fits}
 use mir.Syntax.{w8}
@@ -11,8 +9,6 @@ use borrow.Author.Needs.{needs}
 use Rattle.analog_writer.proofs.Whole.{fine-is}
 use Rattle.analog_writer.specs.List.{listFine}
 use Rattle.record.proofs.Typed.{analog-typed}
-use Rattle.record.specs.Analog.{analog}
-use Rattle.record.specs.Capacities.{capacities}
 use Rattle.analog_writer.proofs.fine_analog.Statement.{statement}
 use Rattle.analog_writer.proofs.fine_analog.Tie as tie
 
@@ -24,10 +20,12 @@ fine-list-requires c κs = search needs
 
 returns : tie.Need-returns
 returns c =
-    let h : Fits w8 ((c .before .before .before .before .args .analog) .«cell_count») = search needs in
-    let k : Fits w8 ((c .before .before .before .before .args .analog) .«temperature_count») = search needs in
-    let e = fine-is (c .before .before .before .before .args .analog) (analog-typed (c .before .before .before .before .args .analog) _ (c .before .before .before .before .good .0)) (h .fits) (k .fits) in
-    let n1 : listFine ((c .before .before .before .before .args .analog) .«cell_count») ((c .before .before .before .before .args .analog) .cells) ≡ false = sym (c .before .fine-list .ensures) ∙ not-true _ (c .if1 .taken) in
+    let start = c .before .before .before .before in
+    let the-analog = start .args .analog in
+    let h : Fits w8 (the-analog .«cell_count») = search needs in
+    let k : Fits w8 (the-analog .«temperature_count») = search needs in
+    let e = fine-is the-analog (analog-typed the-analog _ (start .good .0)) (h .fits) (k .fits) in
+    let n1 : listFine (the-analog .«cell_count») (the-analog .cells) ≡ false = sym (c .before .fine-list .ensures) ∙ not-true _ (c .if1 .taken) in
     sym (e ∙ rw n1)
 
 slice-aggregate-fine-list-2 : tie.Need-slice-aggregate-fine-list-2
@@ -38,11 +36,14 @@ fine-list-requires-2 c κs = search needs
 
 returns-2 : tie.Need-returns-2
 returns-2 c =
-    let h : Fits w8 ((c .before .before .before .before .before .before .before .before .args .analog) .«cell_count») = search needs in
-    let k : Fits w8 ((c .before .before .before .before .before .before .before .before .args .analog) .«temperature_count») = search needs in
-    let e = fine-is (c .before .before .before .before .before .before .before .before .args .analog) (analog-typed (c .before .before .before .before .before .before .before .before .args .analog) _ (c .before .before .before .before .before .before .before .before .good .0)) (h .fits) (k .fits) in
-    let y1 : listFine ((c .before .before .before .before .before .before .before .before .args .analog) .«cell_count») ((c .before .before .before .before .before .before .before .before .args .analog) .cells) ≡ true = sym (c .before .before .before .before .before .fine-list .ensures) ∙ not-false _ (c .before .before .before .before .if1 .left) in
-    let n2 : listFine ((c .before .before .before .before .before .before .before .before .args .analog) .«temperature_count») ((c .before .before .before .before .before .before .before .before .args .analog) .temperatures) ≡ false = sym (c .before .fine-list2 .ensures) ∙ not-true _ (c .if2 .taken) in
+    let start = c .before .before .before .before .before .before .before .before in
+    let the-analog = start .args .analog in
+    let fine-list = c .before .before .before .before .before .fine-list in
+    let h : Fits w8 (the-analog .«cell_count») = search needs in
+    let k : Fits w8 (the-analog .«temperature_count») = search needs in
+    let e = fine-is the-analog (analog-typed the-analog _ (start .good .0)) (h .fits) (k .fits) in
+    let y1 : listFine (the-analog .«cell_count») (the-analog .cells) ≡ true = sym (fine-list .ensures) ∙ not-false _ (c .before .before .before .before .if1 .left) in
+    let n2 : listFine (the-analog .«temperature_count») (the-analog .temperatures) ≡ false = sym (c .before .fine-list2 .ensures) ∙ not-true _ (c .if2 .taken) in
     sym (e ∙ rw (y1, n2))
 
 fine-capacities-requires : tie.Need-fine-capacities-requires
@@ -50,11 +51,15 @@ fine-capacities-requires c κs = search needs
 
 returns-3 : tie.Need-returns-3
 returns-3 c =
-    let h : Fits w8 ((c .before .before .before .before .before .before .before .before .before .args .analog) .«cell_count») = search needs in
-    let k : Fits w8 ((c .before .before .before .before .before .before .before .before .before .args .analog) .«temperature_count») = search needs in
-    let e = fine-is (c .before .before .before .before .before .before .before .before .before .args .analog) (analog-typed (c .before .before .before .before .before .before .before .before .before .args .analog) _ (c .before .before .before .before .before .before .before .before .before .good .0)) (h .fits) (k .fits) in
-    let y1 : listFine ((c .before .before .before .before .before .before .before .before .before .args .analog) .«cell_count») ((c .before .before .before .before .before .before .before .before .before .args .analog) .cells) ≡ true = sym (c .before .before .before .before .before .before .fine-list .ensures) ∙ not-false _ (c .before .before .before .before .before .if1 .left) in
-    let y2 : listFine ((c .before .before .before .before .before .before .before .before .before .args .analog) .«temperature_count») ((c .before .before .before .before .before .before .before .before .before .args .analog) .temperatures) ≡ true = sym (c .before .before .fine-list2 .ensures) ∙ not-false _ (c .before .if2 .left) in
+    let start = c .before .before .before .before .before .before .before .before .before in
+    let the-analog = start .args .analog in
+    let fine-list = c .before .before .before .before .before .before .fine-list in
+    let if1 = c .before .before .before .before .before .if1 in
+    let h : Fits w8 (the-analog .«cell_count») = search needs in
+    let k : Fits w8 (the-analog .«temperature_count») = search needs in
+    let e = fine-is the-analog (analog-typed the-analog _ (start .good .0)) (h .fits) (k .fits) in
+    let y1 : listFine (the-analog .«cell_count») (the-analog .cells) ≡ true = sym (fine-list .ensures) ∙ not-false _ (if1 .left) in
+    let y2 : listFine (the-analog .«temperature_count») (the-analog .temperatures) ≡ true = sym (c .before .before .fine-list2 .ensures) ∙ not-false _ (c .before .if2 .left) in
     c .fine-capacities .ensures ∙ sym (e ∙ rw (y1, y2))
 
 pub fine-analog-spec : {M : Type 1} → statement M

@@ -1,10 +1,6 @@
 -- By total, as the rule says.
-use mathlib.Core.Path.{ap}
 use Prim.Native.Nat.{_-_}
-use lib.Dec.{leb, T}
-use lib.ListN.{take}
 use borrow.Author.Tests.{le-leb, lt-leb}
-use Rattle.record.specs.Capacities.{capacities}
 use Rattle.analog_writer.proofs.fine_capacities.Statement.{statement}
 use Rattle.analog_writer.proofs.fine_capacities.Tie as tie
 

@@ -3,7 +3,6 @@ use mathlib.Core.Path.{_≡_, sym, ap, _∙_}
 use Prim.Native.Nat.{ℕ, _-_}
 use lib.Seq.{take-length}
 use lib.ListN.{length-drop, length, drop, take}
-use lib.Dec.{T}
 use borrow.Author.Needs.{needs}
 use Rattle.analog_writer.proofs.Lists.{list-low, list-high, list-rest}
 use Rattle.record.specs.Zeros.{is0}
@@ -15,7 +14,9 @@ returns : tie.Need-returns
 returns c = list-low (c .before .args .count) (c .before .args .list .now) (c .if1 .taken)
 
 returns-2 : tie.Need-returns-2
-returns-2 c = list-high (c .before .before .args .count) (c .before .before .args .list .now) (c .before .if1 .left) (c .if2 .taken)
+returns-2 c =
+    let start = c .before .before in
+    list-high (start .args .count) (start .args .list .now) (c .before .if1 .left) (c .if2 .taken)
 
 mul-all-zero : tie.Need-mul-all-zero
 mul-all-zero c = search needs
@@ -34,8 +35,11 @@ all-zero-requires c κs = search needs
 
 returns-3 : tie.Need-returns-3
 returns-3 c =
-    let e : take (length (c .before .before .before .before .args .list .now) - (c .before .before .before .before .args .count)) (drop (c .before .before .before .before .args .count) (c .before .before .before .before .args .list .now)) ≡ drop (c .before .before .before .before .args .count) (c .before .before .before .before .args .list .now) = ap (λ (k : ℕ). take k (drop (c .before .before .before .before .args .count) (c .before .before .before .before .args .list .now))) (sym (length-drop (c .before .before .before .before .args .count) (c .before .before .before .before .args .list .now))) ∙ take-length (drop (c .before .before .before .before .args .count) (c .before .before .before .before .args .list .now)) in
-    c .all-zero .ensures ∙ ap (every is0) e ∙ list-rest (c .before .before .before .before .args .count) (c .before .before .before .before .args .list .now) (c .before .before .before .if1 .left) (c .before .before .if2 .left)
+    let start = c .before .before .before .before in
+    let list = start .args .list .now in
+    let count = start .args .count in
+    let e : take (length list - count) (drop count list) ≡ drop count list = ap (λ (k : ℕ). take k (drop count list)) (sym (length-drop count list)) ∙ take-length (drop count list) in
+    c .all-zero .ensures ∙ ap (every is0) e ∙ list-rest count list (c .before .before .before .if1 .left) (c .before .before .if2 .left)
 
 pub fine-list-spec : {M : Type 1} → statement M
 fine-list-spec =

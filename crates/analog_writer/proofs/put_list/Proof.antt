@@ -2,9 +2,8 @@
 use mathlib.Core.List.{[], _∷_}
 use mathlib.Core.Path.{sym}
 use Prim.Native.Nat.{_-_}
-use lib.Dec.{T}
 use lib.Seq.{length-take-le}
-use lib.ListN.{length, take}
+use lib.ListN.{take}
 use borrow.Author.Needs.{needs}
 use Rattle.analog_writer.specs.List.{listText}
 use Rattle.codec.specs.Row.{row-put}
@@ -16,19 +15,26 @@ use Rattle.analog_writer.proofs.put_list.Tie as tie
 put-requires : tie.Need-put-requires
 unfolding listText
 put-requires c κs =
-    let r0 = c .before .before .pre .1 in
-    room-first ((c .before .before .args .count) ∷ []) (row-put signed (take (c .before .before .args .count) (c .before .before .args .list .now))) r0
+    let start = c .before .before in
+    let count = start .args .count in
+    let r0 = start .pre .1 in
+    room-first (count ∷ []) (row-put signed (take count (start .args .list .now))) r0
 
 slice-aggregate-put-row : tie.Need-slice-aggregate-put-row
-slice-aggregate-put-row c = sym (length-take-le (c .before .before .before .before .before .before .before .args .count) (c .before .before .before .before .before .before .before .args .list .now) (c .before .before .before .before .before .before .before .pre .0))
+slice-aggregate-put-row c =
+    let start = c .before .before .before .before .before .before .before in
+    sym (length-take-le (start .args .count) (start .args .list .now) (start .pre .0))
 
 put-row-requires : tie.Need-put-row-requires
 unfolding listText
 put-row-requires c κs =
-    let r0 = c .before .before .before .before .before .before .before .pre .1 in
-    let f0 = room-first ((c .before .before .before .before .before .before .before .args .count) ∷ []) (row-put signed (take (c .before .before .before .before .before .before .before .args .count) (c .before .before .before .before .before .before .before .args .list .now))) r0 in
-    let p0 = (c .before .before .before .before .put .ensures) in
-    let r1 = room-rest ((c .before .before .before .before .before .before .before .args .count) ∷ []) (row-put signed (take (c .before .before .before .before .before .before .before .args .count) (c .before .before .before .before .before .before .before .args .list .now))) r0 p0 (c .before .before .before .before .put .kept .0) in
+    let start = c .before .before .before .before .before .before .before in
+    let count = start .args .count in
+    let list = start .args .list .now in
+    let put = c .before .before .before .before .put in
+    let r0 = start .pre .1 in
+    let p0 = put .ensures in
+    let r1 = room-rest (count ∷ []) (row-put signed (take count list)) r0 p0 (put .kept .0) in
     r1
 
 same-length : tie.Need-same-length
@@ -37,11 +43,14 @@ same-length c = search needs
 returns : tie.Need-returns
 unfolding listText
 returns c =
-    let r0 = c .before .before .before .before .before .before .before .before .before .before .pre .1 in
-    let f0 = room-first ((c .before .before .before .before .before .before .before .before .before .before .args .count) ∷ []) (row-put signed (take (c .before .before .before .before .before .before .before .before .before .before .args .count) (c .before .before .before .before .before .before .before .before .before .before .args .list .now))) r0 in
-    let p0 = (c .before .before .before .before .before .before .before .put .ensures) in
-    let r1 = room-rest ((c .before .before .before .before .before .before .before .before .before .before .args .count) ∷ []) (row-put signed (take (c .before .before .before .before .before .before .before .before .before .before .args .count) (c .before .before .before .before .before .before .before .before .before .before .args .list .now))) r0 p0 (c .before .before .before .before .before .before .before .put .kept .0) in
-    let p1 = (c .before .before .put-row .ensures) in
+    let start = c .before .before .before .before .before .before .before .before .before .before in
+    let count = start .args .count in
+    let list = start .args .list .now in
+    let put = c .before .before .before .before .before .before .before .put in
+    let r0 = start .pre .1 in
+    let f0 = room-first (count ∷ []) (row-put signed (take count list)) r0 in
+    let p0 = put .ensures in
+    let p1 = c .before .before .put-row .ensures in
     (put-then f0 p0 p1)
 
 pub put-list-spec : {M : Type 1} → statement M

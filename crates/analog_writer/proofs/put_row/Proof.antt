@@ -4,12 +4,11 @@ use mathlib.Core.Path.{_≡_, refl, ap, _∙_, subst}
 use Prim.Native.Nat.{zero-le, ℕ, _-_, _≤_}
 use native.Mathlib.Omega.{arith}
 use lib.Seq.{take-length}
-use lib.Dec.{T}
 use lib.ListN.{getD, length, take}
 use lib.IntN.{ℤ, pos}
 use borrow.Author.Needs.{needs}
 use mir.Facts.{toZ-ofZ}
-use mir.Val.{Fits, SFits, ofZ, toZ}
+use mir.Val.{SFits}
 use mir.Syntax.{w16}
 use Rattle.codec.proofs.RowPuts.{room-turn, put-turn}
 use Rattle.codec.specs.Row.{row-put}
@@ -35,7 +34,10 @@ shared-slice-copy-out-put-signed : tie.Need-shared-slice-copy-out-put-signed Inv
 shared-slice-copy-out-put-signed c = search needs
 
 put-signed-requires : tie.Need-put-signed-requires Inv-loop μ-loop
-put-signed-requires c κs = record { fits = room-turn signed (c .before .before .before .before .before .args .list .now) (c .before .before .before .loop .i) (pos 0) (omega arith) (c .before .before .before .before .before .args .out .now) (c .before .before .before .before .before .args .at) (c .before .before .before .before .before .pre) (c .before .before .before .loop .out) (c .before .before .before .loop .next) (c .before .before .before .loop .inv .2) (c .before .before .before .loop .inv .0) .fits }
+put-signed-requires c κs =
+    let start = c .before .before .before .before .before in
+    let loop = c .before .before .before .loop in
+    record { fits = room-turn signed (start .args .list .now) (loop .i) (pos 0) (omega arith) (start .args .out .now) (start .args .at) (start .pre) (loop .out) (loop .next) (loop .inv .2) (loop .inv .0) .fits }
 
 add-i : tie.Need-add-i Inv-loop μ-loop
 add-i c = search needs
@@ -45,10 +47,13 @@ loop-less c = search needs
 
 loop-again : tie.Need-loop-again Inv-loop μ-loop
 loop-again c =
-    let f : SFits w16 (getD (c .before .before .before .before .before .before .before .before .args .list .now) (c .before .before .before .before .before .before .loop .i) (pos 0)) = search needs in (
-      c .before .before .put-signed .kept .0 ∙ c .before .before .before .before .before .before .loop .inv .0,
+    let start = c .before .before .before .before .before .before .before .before in
+    let list = start .args .list .now in
+    let loop = c .before .before .before .before .before .before .loop in
+    let f : SFits w16 (getD list (loop .i) (pos 0)) = search needs in (
+      c .before .before .put-signed .kept .0 ∙ loop .inv .0,
       omega arith,
-      put-turn signed (c .before .before .before .before .before .before .before .before .args .list .now) (c .before .before .before .before .before .before .loop .i) (pos 0) (omega arith) (c .before .before .before .before .before .before .before .before .args .out .now) (c .before .before .before .before .before .before .before .before .args .at) (c .before .before .before .before .before .before .before .before .pre) (c .before .before .before .before .before .before .loop .out) (c .before .before .before .before .before .before .loop .next) (c .before .before .before .before .before .before .loop .inv .2) (c .before .before .put-signed .last .0) (c .before .before .put-signed .result) (rw (toZ-ofZ f) at (c .before .before .put-signed .ensures)),
+      put-turn signed list (loop .i) (pos 0) (omega arith) (start .args .out .now) (start .args .at) (start .pre) (loop .out) (loop .next) (loop .inv .2) (c .before .before .put-signed .last .0) (c .before .before .put-signed .result) (rw (toZ-ofZ f) at (c .before .before .put-signed .ensures)),
     )
 
 same-length : tie.Need-same-length Inv-loop μ-loop
@@ -56,9 +61,11 @@ same-length c = c .before .loop .inv .0
 
 returns : tie.Need-returns Inv-loop μ-loop
 returns c =
-    let i : c .before .loop .i ≡ length (c .before .before .before .args .list .now) = omega arith in
-    let e : take (c .before .loop .i) (c .before .before .before .args .list .now) ≡ (c .before .before .before .args .list .now) = ap (λ (k : ℕ). take k (c .before .before .before .args .list .now)) i ∙ take-length (c .before .before .before .args .list .now) in
-    subst (λ (s : List ℤ). Put (c .before .before .before .args .out .now) (c .before .before .before .args .at) (row-put signed s) (c .before .loop .out) (c .before .loop .next)) e (c .before .loop .inv .2)
+    let start = c .before .before .before in
+    let list = start .args .list .now in
+    let i : c .before .loop .i ≡ length list = omega arith in
+    let e : take (c .before .loop .i) list ≡ list = ap (λ (k : ℕ). take k list) i ∙ take-length list in
+    subst (λ (s : List ℤ). Put (start .args .out .now) (start .args .at) (row-put signed s) (c .before .loop .out) (c .before .loop .next)) e (c .before .loop .inv .2)
 
 pub put-row-spec : {M : Type 1} → statement M
 put-row-spec =

@@ -1,10 +1,7 @@
 -- A word, then one byte more.
 use Prim.Native.Nat.{_-_}
 use native.Mathlib.Omega.{arith}
-use lib.Dec.{T}
-use lib.ListN.{length}
 use borrow.Author.Needs.{needs}
-use Rattle.codec.specs.Numbers.{three, word}
 use Rattle.buffer.proofs.Puts.{put-then}
 use Rattle.analog_writer.proofs.put_three.Statement.{statement}
 use Rattle.analog_writer.proofs.put_three.Tie as tie
@@ -19,13 +16,19 @@ cast-put : tie.Need-cast-put
 cast-put c = search needs
 
 put-requires : tie.Need-put-requires
-put-requires c κs = record { fits = omega (arith, c .before .before .before .before .before .before .pre .1 .fits, c .before .before .before .put-word .ensures .end, c .before .before .before .put-word .kept) }
+put-requires c κs =
+    let start = c .before .before .before .before .before .before in
+    let put-word = c .before .before .before .put-word in
+    record { fits = omega (arith, start .pre .1 .fits, put-word .ensures .end, put-word .kept) }
 
 same-length : tie.Need-same-length
 same-length c = search needs
 
 returns : tie.Need-returns
-returns c = put-then (record { fits = omega (arith, c .before .before .before .before .before .before .before .before .before .pre .1 .fits) }) (c .before .before .before .before .before .before .put-word .ensures) (c .before .before .put .ensures)
+returns c =
+    let start = c .before .before .before .before .before .before .before .before .before in
+    let put-word = c .before .before .before .before .before .before .put-word in
+    put-then (record { fits = omega (arith, start .pre .1 .fits) }) (put-word .ensures) (c .before .before .put .ensures)
 
 pub put-three-spec : {M : Type 1} → statement M
 put-three-spec =

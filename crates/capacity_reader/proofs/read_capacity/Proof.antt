@@ -1,13 +1,10 @@
 -- A word and one byte more.
-use mathlib.Core.Path.{ap}
 use Prim.Native.Nat.{_-_}
-use lib.Dec.{T}
 use borrow.Author.Needs.{needs}
 use Rattle.codec.proofs.Places.{found, stops}
-use Rattle.codec.specs.Reading.{read}
 use Rattle.codec.specs.Numbers.{three, word}
 use Rattle.readers.proofs.Steps.{field-went, field-ended}
-use Rattle.codec.specs.Codec.{byte, no}
+use Rattle.codec.specs.Codec.{byte}
 use Rattle.hex.proofs.Laws.{bytes-unhexes}
 use Rattle.hex.specs.Hex.{unhexes}
 use Rattle.capacity_reader.proofs.read_capacity.Statement.{statement}
@@ -24,8 +21,11 @@ enum-told c = search needs
 
 returns : tie.Need-returns
 returns c =
-    let e1 = field-ended word (unhexes (c .before .before .before .before .args .info .now)) (c .before .before .before .before .args .at) (c .before .before .field .result) (c .before .before .field .ensures) (c .enum-told .given .1) in
-    stops three 0 (unhexes (c .before .before .before .before .args .info .now)) (c .before .before .before .before .args .at) (rw e1)
+    let start = c .before .before .before .before in
+    let info = start .args .info .now in
+    let place = start .args .at in
+    let e1 = field-ended word (unhexes info) place (c .before .before .field .result) (c .before .before .field .ensures) (c .enum-told .given .1) in
+    stops three 0 (unhexes info) place (rw e1)
 
 field-requires-2 : tie.Need-field-requires-2
 field-requires-2 c κs = search needs
@@ -38,9 +38,14 @@ enum-told-2 c = search needs
 
 returns-2 : tie.Need-returns-2
 returns-2 c =
-    let w1 = field-went word (unhexes (c .before .before .before .before .before .before .before .before .args .info .now)) (c .before .before .before .before .before .before .before .before .args .at) (c .before .before .before .before .before .before .field .result) (c .before .before .before .before .before .before .field .ensures) (bytes-unhexes (c .before .before .before .before .before .before .before .before .args .info .now)) (c .before .before .before .before .high .given .1) in
-    let e2 = field-ended byte (unhexes (c .before .before .before .before .before .before .before .before .args .info .now)) (c .before .before .before .before .high .given .0 .1 .0) (c .before .before .field2 .result) (c .before .before .field2 .ensures) (c .enum-told2 .given .1) in
-    stops three 0 (unhexes (c .before .before .before .before .before .before .before .before .args .info .now)) (c .before .before .before .before .before .before .before .before .args .at) (rw (w1 .get, e2))
+    let start = c .before .before .before .before .before .before .before .before in
+    let info = start .args .info .now in
+    let place = start .args .at in
+    let field = c .before .before .before .before .before .before .field in
+    let high = c .before .before .before .before .high in
+    let w1 = field-went word (unhexes info) place (field .result) (field .ensures) (bytes-unhexes info) (high .given .1) in
+    let e2 = field-ended byte (unhexes info) (high .given .0 .1 .0) (c .before .before .field2 .result) (c .before .before .field2 .ensures) (c .enum-told2 .given .1) in
+    stops three 0 (unhexes info) place (rw (w1 .get, e2))
 
 cast-t9 : tie.Need-cast-t9
 cast-t9 c = search needs
@@ -56,9 +61,15 @@ add-t12 c = search needs
 
 returns-3 : tie.Need-returns-3
 returns-3 c =
-    let w1 = field-went word (unhexes (c .before .before .before .before .before .before .before .before .before .args .info .now)) (c .before .before .before .before .before .before .before .before .before .args .at) (c .before .before .before .before .before .before .before .field .result) (c .before .before .before .before .before .before .before .field .ensures) (bytes-unhexes (c .before .before .before .before .before .before .before .before .before .args .info .now)) (c .before .before .before .before .before .high .given .1) in
-    let w2 = field-went byte (unhexes (c .before .before .before .before .before .before .before .before .before .args .info .now)) (c .before .before .before .before .before .high .given .0 .1 .0) (c .before .before .before .field2 .result) (c .before .before .before .field2 .ensures) (bytes-unhexes (c .before .before .before .before .before .before .before .before .before .args .info .now)) (c .before .low .given .1) in
-    found three 0 (unhexes (c .before .before .before .before .before .before .before .before .before .args .info .now)) (c .before .before .before .before .before .before .before .before .before .args .at) (rw (w1 .get, w2 .get)) (w2 .place)
+    let start = c .before .before .before .before .before .before .before .before .before in
+    let info = start .args .info .now in
+    let place = start .args .at in
+    let field = c .before .before .before .before .before .before .before .field in
+    let high = c .before .before .before .before .before .high in
+    let field2 = c .before .before .before .field2 in
+    let w1 = field-went word (unhexes info) place (field .result) (field .ensures) (bytes-unhexes info) (high .given .1) in
+    let w2 = field-went byte (unhexes info) (high .given .0 .1 .0) (field2 .result) (field2 .ensures) (bytes-unhexes info) (c .before .low .given .1) in
+    found three 0 (unhexes info) place (rw (w1 .get, w2 .get)) (w2 .place)
 
 pub read-capacity-spec : {M : Type 1} → statement M
 read-capacity-spec =

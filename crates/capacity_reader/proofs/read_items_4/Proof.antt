@@ -2,21 +2,17 @@
 use mathlib.Core.Bool.{true}
 use mathlib.Core.Path.{ap, _∙_}
 use Prim.Native.Nat.{_-_}
-use lib.ListN.{take, drop}
-use lib.Dec.{T}
+use lib.ListN.{drop}
 use borrow.Author.Tests.{ne-eqb, eq-eqb, lt-ltb, le-ltb}
 use borrow.Author.Needs.{needs}
 use Rattle.capacity_reader.proofs.Threes.{capacity-went, capacity-ended}
 use Rattle.capacity_reader.specs.declared.CapacitiesRead.{CapacitiesRead}
 use Rattle.capacity_reader.specs.Nothing.{noCapacities}
 use Rattle.capacity_reader.specs.Capacity.{afterItems}
-use Rattle.record.specs.Capacities.{capacities}
-use Rattle.codec.proofs.Places.{found-in, stops-in, found, stops}
-use Rattle.codec.specs.Reading.{read}
+use Rattle.codec.proofs.Places.{found-in, stops-in}
 use Rattle.codec.specs.Numbers.{word}
 use Rattle.readers.proofs.Steps.{field-went, field-ended}
 use Rattle.readers.specs.Readings.{paper}
-use Rattle.codec.specs.Codec.{byte, no}
 use Rattle.hex.proofs.Laws.{bytes-unhexes}
 use Rattle.hex.specs.Hex.{unhexes}
 use Rattle.capacity_reader.proofs.read_items_4.Statement.{statement}
@@ -37,9 +33,13 @@ no-capacities-requires c κs = search needs
 returns : tie.Need-returns
 unfolding afterItems
 returns c =
-    let e1 = field-ended word (unhexes (c .before .before .before .before .before .args .info .now)) (c .before .before .before .before .before .args .at) (c .before .before .before .field .result) (c .before .before .before .field .ensures) (c .before .enum-told .given .1) in
+    let start = c .before .before .before .before .before in
+    let info = start .args .info .now in
+    let place = start .args .at in
+    let field = c .before .before .before .field in
+    let e1 = field-ended word (unhexes info) place (field .result) (field .ensures) (c .before .enum-told .given .1) in
     ap (λ (x : CapacitiesRead). paper (x .reading) (x .remaining, (x .total, x .cycles))) (c .no-capacities .ensures)
-    ∙ stops-in noCapacities (unhexes (c .before .before .before .before .before .args .info .now)) (afterItems (c .before .before .before .before .before .args .remaining) true (drop (c .before .before .before .before .before .args .at) (unhexes (c .before .before .before .before .before .args .info .now)))) (rw (e1))
+    ∙ stops-in noCapacities (unhexes info) (afterItems (start .args .remaining) true (drop place (unhexes info))) (rw (e1))
 
 field-requires-2 : tie.Need-field-requires-2
 field-requires-2 c κs = search needs
@@ -56,10 +56,16 @@ no-capacities-requires-2 c κs = search needs
 returns-2 : tie.Need-returns-2
 unfolding afterItems
 returns-2 c =
-    let w1 = field-went word (unhexes (c .before .before .before .before .before .before .before .before .before .args .info .now)) (c .before .before .before .before .before .before .before .before .before .args .at) (c .before .before .before .before .before .before .before .field .result) (c .before .before .before .before .before .before .before .field .ensures) (bytes-unhexes (c .before .before .before .before .before .before .before .before .before .args .info .now)) (c .before .before .before .before .before .total .given .1) in
-    let e2 = field-ended word (unhexes (c .before .before .before .before .before .before .before .before .before .args .info .now)) (c .before .before .before .before .before .total .given .0 .1 .0) (c .before .before .before .field2 .result) (c .before .before .before .field2 .ensures) (c .before .enum-told2 .given .1) in
+    let start = c .before .before .before .before .before .before .before .before .before in
+    let info = start .args .info .now in
+    let place = start .args .at in
+    let field = c .before .before .before .before .before .before .before .field in
+    let total = c .before .before .before .before .before .total in
+    let field2 = c .before .before .before .field2 in
+    let w1 = field-went word (unhexes info) place (field .result) (field .ensures) (bytes-unhexes info) (total .given .1) in
+    let e2 = field-ended word (unhexes info) (total .given .0 .1 .0) (field2 .result) (field2 .ensures) (c .before .enum-told2 .given .1) in
     ap (λ (x : CapacitiesRead). paper (x .reading) (x .remaining, (x .total, x .cycles))) (c .no-capacities2 .ensures)
-    ∙ stops-in noCapacities (unhexes (c .before .before .before .before .before .before .before .before .before .args .info .now)) (afterItems (c .before .before .before .before .before .before .before .before .before .args .remaining) true (drop (c .before .before .before .before .before .before .before .before .before .args .at) (unhexes (c .before .before .before .before .before .before .before .before .before .args .info .now)))) (rw (w1 .get, e2))
+    ∙ stops-in noCapacities (unhexes info) (afterItems (start .args .remaining) true (drop place (unhexes info))) (rw (w1 .get, e2))
 
 read-capacity-requires : tie.Need-read-capacity-requires
 read-capacity-requires c κs = search needs
@@ -76,11 +82,19 @@ no-capacities-requires-3 c κs = search needs
 returns-3 : tie.Need-returns-3
 unfolding afterItems
 returns-3 c =
-    let w1 = field-went word (unhexes (c .before .before .before .before .before .before .before .before .before .before .before .before .before .args .info .now)) (c .before .before .before .before .before .before .before .before .before .before .before .before .before .args .at) (c .before .before .before .before .before .before .before .before .before .before .before .field .result) (c .before .before .before .before .before .before .before .before .before .before .before .field .ensures) (bytes-unhexes (c .before .before .before .before .before .before .before .before .before .before .before .before .before .args .info .now)) (c .before .before .before .before .before .before .before .before .before .total .given .1) in
-    let w2 = field-went word (unhexes (c .before .before .before .before .before .before .before .before .before .before .before .before .before .args .info .now)) (c .before .before .before .before .before .before .before .before .before .total .given .0 .1 .0) (c .before .before .before .before .before .before .before .field2 .result) (c .before .before .before .before .before .before .before .field2 .ensures) (bytes-unhexes (c .before .before .before .before .before .before .before .before .before .before .before .before .before .args .info .now)) (c .before .before .before .before .before .cycles .given .1) in
-    let e3 = capacity-ended (unhexes (c .before .before .before .before .before .before .before .before .before .before .before .before .before .args .info .now)) (c .before .before .before .before .before .cycles .given .0 .1 .0) (c .before .before .before .read-capacity .result) (c .before .before .before .read-capacity .ensures) (c .before .enum-told3 .given .1) in
+    let start = c .before .before .before .before .before .before .before .before .before .before .before .before .before in
+    let info = start .args .info .now in
+    let place = start .args .at in
+    let field = c .before .before .before .before .before .before .before .before .before .before .before .field in
+    let total = c .before .before .before .before .before .before .before .before .before .total in
+    let field2 = c .before .before .before .before .before .before .before .field2 in
+    let cycles = c .before .before .before .before .before .cycles in
+    let read-capacity = c .before .before .before .read-capacity in
+    let w1 = field-went word (unhexes info) place (field .result) (field .ensures) (bytes-unhexes info) (total .given .1) in
+    let w2 = field-went word (unhexes info) (total .given .0 .1 .0) (field2 .result) (field2 .ensures) (bytes-unhexes info) (cycles .given .1) in
+    let e3 = capacity-ended (unhexes info) (cycles .given .0 .1 .0) (read-capacity .result) (read-capacity .ensures) (c .before .enum-told3 .given .1) in
     ap (λ (x : CapacitiesRead). paper (x .reading) (x .remaining, (x .total, x .cycles))) (c .no-capacities3 .ensures)
-    ∙ stops-in noCapacities (unhexes (c .before .before .before .before .before .before .before .before .before .before .before .before .before .args .info .now)) (afterItems (c .before .before .before .before .before .before .before .before .before .before .before .before .before .args .remaining) true (drop (c .before .before .before .before .before .before .before .before .before .before .before .before .before .args .at) (unhexes (c .before .before .before .before .before .before .before .before .before .before .before .before .before .args .info .now)))) (rw (w1 .get, w2 .get, e3))
+    ∙ stops-in noCapacities (unhexes info) (afterItems (start .args .remaining) true (drop place (unhexes info))) (rw (w1 .get, w2 .get, e3))
 
 read-capacity-requires-2 : tie.Need-read-capacity-requires-2
 read-capacity-requires-2 c κs = search needs
@@ -97,12 +111,22 @@ no-capacities-requires-4 c κs = search needs
 returns-4 : tie.Need-returns-4
 unfolding afterItems
 returns-4 c =
-    let w1 = field-went word (unhexes (c .before .before .before .before .before .before .before .before .before .before .before .before .before .before .before .before .before .args .info .now)) (c .before .before .before .before .before .before .before .before .before .before .before .before .before .before .before .before .before .args .at) (c .before .before .before .before .before .before .before .before .before .before .before .before .before .before .before .field .result) (c .before .before .before .before .before .before .before .before .before .before .before .before .before .before .before .field .ensures) (bytes-unhexes (c .before .before .before .before .before .before .before .before .before .before .before .before .before .before .before .before .before .args .info .now)) (c .before .before .before .before .before .before .before .before .before .before .before .before .before .total .given .1) in
-    let w2 = field-went word (unhexes (c .before .before .before .before .before .before .before .before .before .before .before .before .before .before .before .before .before .args .info .now)) (c .before .before .before .before .before .before .before .before .before .before .before .before .before .total .given .0 .1 .0) (c .before .before .before .before .before .before .before .before .before .before .before .field2 .result) (c .before .before .before .before .before .before .before .before .before .before .before .field2 .ensures) (bytes-unhexes (c .before .before .before .before .before .before .before .before .before .before .before .before .before .before .before .before .before .args .info .now)) (c .before .before .before .before .before .before .before .before .before .cycles .given .1) in
-    let w3 = capacity-went (unhexes (c .before .before .before .before .before .before .before .before .before .before .before .before .before .before .before .before .before .args .info .now)) (c .before .before .before .before .before .before .before .before .before .cycles .given .0 .1 .0) (c .before .before .before .before .before .before .before .read-capacity .result) (c .before .before .before .before .before .before .before .read-capacity .ensures) (bytes-unhexes (c .before .before .before .before .before .before .before .before .before .before .before .before .before .before .before .before .before .args .info .now)) (c .before .before .before .before .before .remaining2 .given .1) in
-    let e4 = capacity-ended (unhexes (c .before .before .before .before .before .before .before .before .before .before .before .before .before .before .before .before .before .args .info .now)) (c .before .before .before .before .before .remaining2 .given .0 .1 .0) (c .before .before .before .read-capacity2 .result) (c .before .before .before .read-capacity2 .ensures) (c .before .enum-told4 .given .1) in
+    let start = c .before .before .before .before .before .before .before .before .before .before .before .before .before .before .before .before .before in
+    let info = start .args .info .now in
+    let place = start .args .at in
+    let field = c .before .before .before .before .before .before .before .before .before .before .before .before .before .before .before .field in
+    let total = c .before .before .before .before .before .before .before .before .before .before .before .before .before .total in
+    let field2 = c .before .before .before .before .before .before .before .before .before .before .before .field2 in
+    let cycles = c .before .before .before .before .before .before .before .before .before .cycles in
+    let read-capacity = c .before .before .before .before .before .before .before .read-capacity in
+    let remaining2 = c .before .before .before .before .before .remaining2 in
+    let read-capacity2 = c .before .before .before .read-capacity2 in
+    let w1 = field-went word (unhexes info) place (field .result) (field .ensures) (bytes-unhexes info) (total .given .1) in
+    let w2 = field-went word (unhexes info) (total .given .0 .1 .0) (field2 .result) (field2 .ensures) (bytes-unhexes info) (cycles .given .1) in
+    let w3 = capacity-went (unhexes info) (cycles .given .0 .1 .0) (read-capacity .result) (read-capacity .ensures) (bytes-unhexes info) (remaining2 .given .1) in
+    let e4 = capacity-ended (unhexes info) (remaining2 .given .0 .1 .0) (read-capacity2 .result) (read-capacity2 .ensures) (c .before .enum-told4 .given .1) in
     ap (λ (x : CapacitiesRead). paper (x .reading) (x .remaining, (x .total, x .cycles))) (c .no-capacities4 .ensures)
-    ∙ stops-in noCapacities (unhexes (c .before .before .before .before .before .before .before .before .before .before .before .before .before .before .before .before .before .args .info .now)) (afterItems (c .before .before .before .before .before .before .before .before .before .before .before .before .before .before .before .before .before .args .remaining) true (drop (c .before .before .before .before .before .before .before .before .before .before .before .before .before .before .before .before .before .args .at) (unhexes (c .before .before .before .before .before .before .before .before .before .before .before .before .before .before .before .before .before .args .info .now)))) (rw (w1 .get, w2 .get, w3 .get, e4))
+    ∙ stops-in noCapacities (unhexes info) (afterItems (start .args .remaining) true (drop place (unhexes info))) (rw (w1 .get, w2 .get, w3 .get, e4))
 
 no-capacities-requires-5 : tie.Need-no-capacities-requires-5
 no-capacities-requires-5 c κs = search needs
@@ -110,12 +134,23 @@ no-capacities-requires-5 c κs = search needs
 returns-5 : tie.Need-returns-5
 unfolding afterItems
 returns-5 c =
-    let w1 = field-went word (unhexes (c .before .before .before .before .before .before .before .before .before .before .before .before .before .before .before .before .before .before .before .args .info .now)) (c .before .before .before .before .before .before .before .before .before .before .before .before .before .before .before .before .before .before .before .args .at) (c .before .before .before .before .before .before .before .before .before .before .before .before .before .before .before .before .before .field .result) (c .before .before .before .before .before .before .before .before .before .before .before .before .before .before .before .before .before .field .ensures) (bytes-unhexes (c .before .before .before .before .before .before .before .before .before .before .before .before .before .before .before .before .before .before .before .args .info .now)) (c .before .before .before .before .before .before .before .before .before .before .before .before .before .before .before .total .given .1) in
-    let w2 = field-went word (unhexes (c .before .before .before .before .before .before .before .before .before .before .before .before .before .before .before .before .before .before .before .args .info .now)) (c .before .before .before .before .before .before .before .before .before .before .before .before .before .before .before .total .given .0 .1 .0) (c .before .before .before .before .before .before .before .before .before .before .before .before .before .field2 .result) (c .before .before .before .before .before .before .before .before .before .before .before .before .before .field2 .ensures) (bytes-unhexes (c .before .before .before .before .before .before .before .before .before .before .before .before .before .before .before .before .before .before .before .args .info .now)) (c .before .before .before .before .before .before .before .before .before .before .before .cycles .given .1) in
-    let w3 = capacity-went (unhexes (c .before .before .before .before .before .before .before .before .before .before .before .before .before .before .before .before .before .before .before .args .info .now)) (c .before .before .before .before .before .before .before .before .before .before .before .cycles .given .0 .1 .0) (c .before .before .before .before .before .before .before .before .before .read-capacity .result) (c .before .before .before .before .before .before .before .before .before .read-capacity .ensures) (bytes-unhexes (c .before .before .before .before .before .before .before .before .before .before .before .before .before .before .before .before .before .before .before .args .info .now)) (c .before .before .before .before .before .before .before .remaining2 .given .1) in
-    let w4 = capacity-went (unhexes (c .before .before .before .before .before .before .before .before .before .before .before .before .before .before .before .before .before .before .before .args .info .now)) (c .before .before .before .before .before .before .before .remaining2 .given .0 .1 .0) (c .before .before .before .before .before .read-capacity2 .result) (c .before .before .before .before .before .read-capacity2 .ensures) (bytes-unhexes (c .before .before .before .before .before .before .before .before .before .before .before .before .before .before .before .before .before .before .before .args .info .now)) (c .before .before .before .total2 .given .1) in
+    let start = c .before .before .before .before .before .before .before .before .before .before .before .before .before .before .before .before .before .before .before in
+    let info = start .args .info .now in
+    let place = start .args .at in
+    let remaining = start .args .remaining in
+    let field = c .before .before .before .before .before .before .before .before .before .before .before .before .before .before .before .before .before .field in
+    let total = c .before .before .before .before .before .before .before .before .before .before .before .before .before .before .before .total in
+    let field2 = c .before .before .before .before .before .before .before .before .before .before .before .before .before .field2 in
+    let cycles = c .before .before .before .before .before .before .before .before .before .before .before .cycles in
+    let read-capacity = c .before .before .before .before .before .before .before .before .before .read-capacity in
+    let remaining2 = c .before .before .before .before .before .before .before .remaining2 in
+    let read-capacity2 = c .before .before .before .before .before .read-capacity2 in
+    let w1 = field-went word (unhexes info) place (field .result) (field .ensures) (bytes-unhexes info) (total .given .1) in
+    let w2 = field-went word (unhexes info) (total .given .0 .1 .0) (field2 .result) (field2 .ensures) (bytes-unhexes info) (cycles .given .1) in
+    let w3 = capacity-went (unhexes info) (cycles .given .0 .1 .0) (read-capacity .result) (read-capacity .ensures) (bytes-unhexes info) (remaining2 .given .1) in
+    let w4 = capacity-went (unhexes info) (remaining2 .given .0 .1 .0) (read-capacity2 .result) (read-capacity2 .ensures) (bytes-unhexes info) (c .before .before .before .total2 .given .1) in
     ap (λ (x : CapacitiesRead). paper (x .reading) (x .remaining, (x .total, x .cycles))) (c .no-capacities5 .ensures)
-    ∙ stops-in noCapacities (unhexes (c .before .before .before .before .before .before .before .before .before .before .before .before .before .before .before .before .before .before .before .args .info .now)) (afterItems (c .before .before .before .before .before .before .before .before .before .before .before .before .before .before .before .before .before .before .before .args .remaining) true (drop (c .before .before .before .before .before .before .before .before .before .before .before .before .before .before .before .before .before .before .before .args .at) (unhexes (c .before .before .before .before .before .before .before .before .before .before .before .before .before .before .before .before .before .before .before .args .info .now)))) (rw (w1 .get, w2 .get, w3 .get, w4 .get, ne-eqb (c .before .before .before .before .before .before .before .before .before .before .before .before .before .before .before .before .before .before .before .args .remaining) 65535 (c .before .if1 .taken)))
+    ∙ stops-in noCapacities (unhexes info) (afterItems remaining true (drop place (unhexes info))) (rw (w1 .get, w2 .get, w3 .get, w4 .get, ne-eqb remaining 65535 (c .before .if1 .taken)))
 
 no-capacities-requires-6 : tie.Need-no-capacities-requires-6
 no-capacities-requires-6 c κs = search needs
@@ -123,12 +158,23 @@ no-capacities-requires-6 c κs = search needs
 returns-6 : tie.Need-returns-6
 unfolding afterItems
 returns-6 c =
-    let w1 = field-went word (unhexes (c .before .before .before .before .before .before .before .before .before .before .before .before .before .before .before .before .before .before .before .before .args .info .now)) (c .before .before .before .before .before .before .before .before .before .before .before .before .before .before .before .before .before .before .before .before .args .at) (c .before .before .before .before .before .before .before .before .before .before .before .before .before .before .before .before .before .before .field .result) (c .before .before .before .before .before .before .before .before .before .before .before .before .before .before .before .before .before .before .field .ensures) (bytes-unhexes (c .before .before .before .before .before .before .before .before .before .before .before .before .before .before .before .before .before .before .before .before .args .info .now)) (c .before .before .before .before .before .before .before .before .before .before .before .before .before .before .before .before .total .given .1) in
-    let w2 = field-went word (unhexes (c .before .before .before .before .before .before .before .before .before .before .before .before .before .before .before .before .before .before .before .before .args .info .now)) (c .before .before .before .before .before .before .before .before .before .before .before .before .before .before .before .before .total .given .0 .1 .0) (c .before .before .before .before .before .before .before .before .before .before .before .before .before .before .field2 .result) (c .before .before .before .before .before .before .before .before .before .before .before .before .before .before .field2 .ensures) (bytes-unhexes (c .before .before .before .before .before .before .before .before .before .before .before .before .before .before .before .before .before .before .before .before .args .info .now)) (c .before .before .before .before .before .before .before .before .before .before .before .before .cycles .given .1) in
-    let w3 = capacity-went (unhexes (c .before .before .before .before .before .before .before .before .before .before .before .before .before .before .before .before .before .before .before .before .args .info .now)) (c .before .before .before .before .before .before .before .before .before .before .before .before .cycles .given .0 .1 .0) (c .before .before .before .before .before .before .before .before .before .before .read-capacity .result) (c .before .before .before .before .before .before .before .before .before .before .read-capacity .ensures) (bytes-unhexes (c .before .before .before .before .before .before .before .before .before .before .before .before .before .before .before .before .before .before .before .before .args .info .now)) (c .before .before .before .before .before .before .before .before .remaining2 .given .1) in
-    let w4 = capacity-went (unhexes (c .before .before .before .before .before .before .before .before .before .before .before .before .before .before .before .before .before .before .before .before .args .info .now)) (c .before .before .before .before .before .before .before .before .remaining2 .given .0 .1 .0) (c .before .before .before .before .before .before .read-capacity2 .result) (c .before .before .before .before .before .before .read-capacity2 .ensures) (bytes-unhexes (c .before .before .before .before .before .before .before .before .before .before .before .before .before .before .before .before .before .before .before .before .args .info .now)) (c .before .before .before .before .total2 .given .1) in
+    let start = c .before .before .before .before .before .before .before .before .before .before .before .before .before .before .before .before .before .before .before .before in
+    let info = start .args .info .now in
+    let place = start .args .at in
+    let remaining = start .args .remaining in
+    let field = c .before .before .before .before .before .before .before .before .before .before .before .before .before .before .before .before .before .before .field in
+    let total = c .before .before .before .before .before .before .before .before .before .before .before .before .before .before .before .before .total in
+    let field2 = c .before .before .before .before .before .before .before .before .before .before .before .before .before .before .field2 in
+    let cycles = c .before .before .before .before .before .before .before .before .before .before .before .before .cycles in
+    let read-capacity = c .before .before .before .before .before .before .before .before .before .before .read-capacity in
+    let remaining2 = c .before .before .before .before .before .before .before .before .remaining2 in
+    let read-capacity2 = c .before .before .before .before .before .before .read-capacity2 in
+    let w1 = field-went word (unhexes info) place (field .result) (field .ensures) (bytes-unhexes info) (total .given .1) in
+    let w2 = field-went word (unhexes info) (total .given .0 .1 .0) (field2 .result) (field2 .ensures) (bytes-unhexes info) (cycles .given .1) in
+    let w3 = capacity-went (unhexes info) (cycles .given .0 .1 .0) (read-capacity .result) (read-capacity .ensures) (bytes-unhexes info) (remaining2 .given .1) in
+    let w4 = capacity-went (unhexes info) (remaining2 .given .0 .1 .0) (read-capacity2 .result) (read-capacity2 .ensures) (bytes-unhexes info) (c .before .before .before .before .total2 .given .1) in
     ap (λ (x : CapacitiesRead). paper (x .reading) (x .remaining, (x .total, x .cycles))) (c .no-capacities6 .ensures)
-    ∙ stops-in noCapacities (unhexes (c .before .before .before .before .before .before .before .before .before .before .before .before .before .before .before .before .before .before .before .before .args .info .now)) (afterItems (c .before .before .before .before .before .before .before .before .before .before .before .before .before .before .before .before .before .before .before .before .args .remaining) true (drop (c .before .before .before .before .before .before .before .before .before .before .before .before .before .before .before .before .before .before .before .before .args .at) (unhexes (c .before .before .before .before .before .before .before .before .before .before .before .before .before .before .before .before .before .before .before .before .args .info .now)))) (rw (w1 .get, w2 .get, w3 .get, w4 .get, eq-eqb (c .before .before .before .before .before .before .before .before .before .before .before .before .before .before .before .before .before .before .before .before .args .remaining) 65535 (c .before .before .if1 .left), ne-eqb (c .before .before .before .before .before .before .before .before .before .before .before .before .before .before .before .before .total .given .0 .0) 65535 (c .before .if2 .taken)))
+    ∙ stops-in noCapacities (unhexes info) (afterItems remaining true (drop place (unhexes info))) (rw (w1 .get, w2 .get, w3 .get, w4 .get, eq-eqb remaining 65535 (c .before .before .if1 .left), ne-eqb (total .given .0 .0) 65535 (c .before .if2 .taken)))
 
 no-capacities-requires-7 : tie.Need-no-capacities-requires-7
 no-capacities-requires-7 c κs = search needs
@@ -136,21 +182,45 @@ no-capacities-requires-7 c κs = search needs
 returns-7 : tie.Need-returns-7
 unfolding afterItems
 returns-7 c =
-    let w1 = field-went word (unhexes (c .before .before .before .before .before .before .before .before .before .before .before .before .before .before .before .before .before .before .before .before .before .args .info .now)) (c .before .before .before .before .before .before .before .before .before .before .before .before .before .before .before .before .before .before .before .before .before .args .at) (c .before .before .before .before .before .before .before .before .before .before .before .before .before .before .before .before .before .before .before .field .result) (c .before .before .before .before .before .before .before .before .before .before .before .before .before .before .before .before .before .before .before .field .ensures) (bytes-unhexes (c .before .before .before .before .before .before .before .before .before .before .before .before .before .before .before .before .before .before .before .before .before .args .info .now)) (c .before .before .before .before .before .before .before .before .before .before .before .before .before .before .before .before .before .total .given .1) in
-    let w2 = field-went word (unhexes (c .before .before .before .before .before .before .before .before .before .before .before .before .before .before .before .before .before .before .before .before .before .args .info .now)) (c .before .before .before .before .before .before .before .before .before .before .before .before .before .before .before .before .before .total .given .0 .1 .0) (c .before .before .before .before .before .before .before .before .before .before .before .before .before .before .before .field2 .result) (c .before .before .before .before .before .before .before .before .before .before .before .before .before .before .before .field2 .ensures) (bytes-unhexes (c .before .before .before .before .before .before .before .before .before .before .before .before .before .before .before .before .before .before .before .before .before .args .info .now)) (c .before .before .before .before .before .before .before .before .before .before .before .before .before .cycles .given .1) in
-    let w3 = capacity-went (unhexes (c .before .before .before .before .before .before .before .before .before .before .before .before .before .before .before .before .before .before .before .before .before .args .info .now)) (c .before .before .before .before .before .before .before .before .before .before .before .before .before .cycles .given .0 .1 .0) (c .before .before .before .before .before .before .before .before .before .before .before .read-capacity .result) (c .before .before .before .before .before .before .before .before .before .before .before .read-capacity .ensures) (bytes-unhexes (c .before .before .before .before .before .before .before .before .before .before .before .before .before .before .before .before .before .before .before .before .before .args .info .now)) (c .before .before .before .before .before .before .before .before .before .remaining2 .given .1) in
-    let w4 = capacity-went (unhexes (c .before .before .before .before .before .before .before .before .before .before .before .before .before .before .before .before .before .before .before .before .before .args .info .now)) (c .before .before .before .before .before .before .before .before .before .remaining2 .given .0 .1 .0) (c .before .before .before .before .before .before .before .read-capacity2 .result) (c .before .before .before .before .before .before .before .read-capacity2 .ensures) (bytes-unhexes (c .before .before .before .before .before .before .before .before .before .before .before .before .before .before .before .before .before .before .before .before .before .args .info .now)) (c .before .before .before .before .before .total2 .given .1) in
+    let start = c .before .before .before .before .before .before .before .before .before .before .before .before .before .before .before .before .before .before .before .before .before in
+    let info = start .args .info .now in
+    let place = start .args .at in
+    let remaining = start .args .remaining in
+    let field = c .before .before .before .before .before .before .before .before .before .before .before .before .before .before .before .before .before .before .before .field in
+    let total = c .before .before .before .before .before .before .before .before .before .before .before .before .before .before .before .before .before .total in
+    let field2 = c .before .before .before .before .before .before .before .before .before .before .before .before .before .before .before .field2 in
+    let cycles = c .before .before .before .before .before .before .before .before .before .before .before .before .before .cycles in
+    let read-capacity = c .before .before .before .before .before .before .before .before .before .before .before .read-capacity in
+    let remaining2 = c .before .before .before .before .before .before .before .before .before .remaining2 in
+    let read-capacity2 = c .before .before .before .before .before .before .before .read-capacity2 in
+    let total2 = c .before .before .before .before .before .total2 in
+    let w1 = field-went word (unhexes info) place (field .result) (field .ensures) (bytes-unhexes info) (total .given .1) in
+    let w2 = field-went word (unhexes info) (total .given .0 .1 .0) (field2 .result) (field2 .ensures) (bytes-unhexes info) (cycles .given .1) in
+    let w3 = capacity-went (unhexes info) (cycles .given .0 .1 .0) (read-capacity .result) (read-capacity .ensures) (bytes-unhexes info) (remaining2 .given .1) in
+    let w4 = capacity-went (unhexes info) (remaining2 .given .0 .1 .0) (read-capacity2 .result) (read-capacity2 .ensures) (bytes-unhexes info) (total2 .given .1) in
     ap (λ (x : CapacitiesRead). paper (x .reading) (x .remaining, (x .total, x .cycles))) (c .no-capacities7 .ensures)
-    ∙ stops-in noCapacities (unhexes (c .before .before .before .before .before .before .before .before .before .before .before .before .before .before .before .before .before .before .before .before .before .args .info .now)) (afterItems (c .before .before .before .before .before .before .before .before .before .before .before .before .before .before .before .before .before .before .before .before .before .args .remaining) true (drop (c .before .before .before .before .before .before .before .before .before .before .before .before .before .before .before .before .before .before .before .before .before .args .at) (unhexes (c .before .before .before .before .before .before .before .before .before .before .before .before .before .before .before .before .before .before .before .before .before .args .info .now)))) (rw (w1 .get, w2 .get, w3 .get, w4 .get, eq-eqb (c .before .before .before .before .before .before .before .before .before .before .before .before .before .before .before .before .before .before .before .before .before .args .remaining) 65535 (c .before .before .before .if1 .left), eq-eqb (c .before .before .before .before .before .before .before .before .before .before .before .before .before .before .before .before .before .total .given .0 .0) 65535 (c .before .before .if2 .left), le-ltb 65000 (c .before .before .before .before .before .total2 .given .0 .0) (c .before .if3 .taken)))
+    ∙ stops-in noCapacities (unhexes info) (afterItems remaining true (drop place (unhexes info))) (rw (w1 .get, w2 .get, w3 .get, w4 .get, eq-eqb remaining 65535 (c .before .before .before .if1 .left), eq-eqb (total .given .0 .0) 65535 (c .before .before .if2 .left), le-ltb 65000 (total2 .given .0 .0) (c .before .if3 .taken)))
 
 returns-8 : tie.Need-returns-8
 unfolding afterItems
 returns-8 c =
-    let w1 = field-went word (unhexes (c .before .before .before .before .before .before .before .before .before .before .before .before .before .before .before .before .before .before .before .before .args .info .now)) (c .before .before .before .before .before .before .before .before .before .before .before .before .before .before .before .before .before .before .before .before .args .at) (c .before .before .before .before .before .before .before .before .before .before .before .before .before .before .before .before .before .before .field .result) (c .before .before .before .before .before .before .before .before .before .before .before .before .before .before .before .before .before .before .field .ensures) (bytes-unhexes (c .before .before .before .before .before .before .before .before .before .before .before .before .before .before .before .before .before .before .before .before .args .info .now)) (c .before .before .before .before .before .before .before .before .before .before .before .before .before .before .before .before .total .given .1) in
-    let w2 = field-went word (unhexes (c .before .before .before .before .before .before .before .before .before .before .before .before .before .before .before .before .before .before .before .before .args .info .now)) (c .before .before .before .before .before .before .before .before .before .before .before .before .before .before .before .before .total .given .0 .1 .0) (c .before .before .before .before .before .before .before .before .before .before .before .before .before .before .field2 .result) (c .before .before .before .before .before .before .before .before .before .before .before .before .before .before .field2 .ensures) (bytes-unhexes (c .before .before .before .before .before .before .before .before .before .before .before .before .before .before .before .before .before .before .before .before .args .info .now)) (c .before .before .before .before .before .before .before .before .before .before .before .before .cycles .given .1) in
-    let w3 = capacity-went (unhexes (c .before .before .before .before .before .before .before .before .before .before .before .before .before .before .before .before .before .before .before .before .args .info .now)) (c .before .before .before .before .before .before .before .before .before .before .before .before .cycles .given .0 .1 .0) (c .before .before .before .before .before .before .before .before .before .before .read-capacity .result) (c .before .before .before .before .before .before .before .before .before .before .read-capacity .ensures) (bytes-unhexes (c .before .before .before .before .before .before .before .before .before .before .before .before .before .before .before .before .before .before .before .before .args .info .now)) (c .before .before .before .before .before .before .before .before .remaining2 .given .1) in
-    let w4 = capacity-went (unhexes (c .before .before .before .before .before .before .before .before .before .before .before .before .before .before .before .before .before .before .before .before .args .info .now)) (c .before .before .before .before .before .before .before .before .remaining2 .given .0 .1 .0) (c .before .before .before .before .before .before .read-capacity2 .result) (c .before .before .before .before .before .before .read-capacity2 .ensures) (bytes-unhexes (c .before .before .before .before .before .before .before .before .before .before .before .before .before .before .before .before .before .before .before .before .args .info .now)) (c .before .before .before .before .total2 .given .1) in
-    found-in noCapacities (unhexes (c .before .before .before .before .before .before .before .before .before .before .before .before .before .before .before .before .before .before .before .before .args .info .now)) (afterItems (c .before .before .before .before .before .before .before .before .before .before .before .before .before .before .before .before .before .before .before .before .args .remaining) true (drop (c .before .before .before .before .before .before .before .before .before .before .before .before .before .before .before .before .before .before .before .before .args .at) (unhexes (c .before .before .before .before .before .before .before .before .before .before .before .before .before .before .before .before .before .before .before .before .args .info .now)))) (rw (w1 .get, w2 .get, w3 .get, w4 .get, eq-eqb (c .before .before .before .before .before .before .before .before .before .before .before .before .before .before .before .before .before .before .before .before .args .remaining) 65535 (c .before .before .if1 .left), eq-eqb (c .before .before .before .before .before .before .before .before .before .before .before .before .before .before .before .before .total .given .0 .0) 65535 (c .before .if2 .left), lt-ltb 65000 (c .before .before .before .before .total2 .given .0 .0) (c .if3 .left))) (w4 .place)
+    let start = c .before .before .before .before .before .before .before .before .before .before .before .before .before .before .before .before .before .before .before .before in
+    let info = start .args .info .now in
+    let place = start .args .at in
+    let remaining = start .args .remaining in
+    let field = c .before .before .before .before .before .before .before .before .before .before .before .before .before .before .before .before .before .before .field in
+    let total = c .before .before .before .before .before .before .before .before .before .before .before .before .before .before .before .before .total in
+    let field2 = c .before .before .before .before .before .before .before .before .before .before .before .before .before .before .field2 in
+    let cycles = c .before .before .before .before .before .before .before .before .before .before .before .before .cycles in
+    let read-capacity = c .before .before .before .before .before .before .before .before .before .before .read-capacity in
+    let remaining2 = c .before .before .before .before .before .before .before .before .remaining2 in
+    let read-capacity2 = c .before .before .before .before .before .before .read-capacity2 in
+    let total2 = c .before .before .before .before .total2 in
+    let w1 = field-went word (unhexes info) place (field .result) (field .ensures) (bytes-unhexes info) (total .given .1) in
+    let w2 = field-went word (unhexes info) (total .given .0 .1 .0) (field2 .result) (field2 .ensures) (bytes-unhexes info) (cycles .given .1) in
+    let w3 = capacity-went (unhexes info) (cycles .given .0 .1 .0) (read-capacity .result) (read-capacity .ensures) (bytes-unhexes info) (remaining2 .given .1) in
+    let w4 = capacity-went (unhexes info) (remaining2 .given .0 .1 .0) (read-capacity2 .result) (read-capacity2 .ensures) (bytes-unhexes info) (total2 .given .1) in
+    found-in noCapacities (unhexes info) (afterItems remaining true (drop place (unhexes info))) (rw (w1 .get, w2 .get, w3 .get, w4 .get, eq-eqb remaining 65535 (c .before .before .if1 .left), eq-eqb (total .given .0 .0) 65535 (c .before .if2 .left), lt-ltb 65000 (total2 .given .0 .0) (c .if3 .left))) (w4 .place)
 
 pub read-items-4-spec : {M : Type 1} → statement M
 read-items-4-spec =

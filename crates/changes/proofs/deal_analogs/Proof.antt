@@ -24,52 +24,93 @@ loop-holds : tie.Need-loop-holds Inv-loop μ-loop
 loop-holds c = (omega arith, omega arith, dealt-start withAnalog (take (c .before .args .count) (c .before .args .t3)) (c .before .args .table))
 
 mul-member : tie.Need-mul-member Inv-loop μ-loop
-mul-member c = omega (arith, at-most-twelve (c .before .before .before .args .table) (twelve (c .before .before .before .args .table) _ (c .before .before .before .good .0)), c .before .before .size .ensures)
+mul-member c =
+    let start = c .before .before .before in
+    let table = start .args .table in
+    omega (arith, at-most-twelve table (twelve table _ (start .good .0)), c .before .before .size .ensures)
 
 element-copy-out-member : tie.Need-element-copy-out-member Inv-loop μ-loop
-element-copy-out-member c = omega (arith, at-most-twelve (c .before .before .before .args .table) (twelve (c .before .before .before .args .table) _ (c .before .before .before .good .0)), c .before .before .size .ensures)
+element-copy-out-member c =
+    let start = c .before .before .before in
+    let table = start .args .table in
+    omega (arith, at-most-twelve table (twelve table _ (start .good .0)), c .before .before .size .ensures)
 
 mul-analog : tie.Need-mul-analog Inv-loop μ-loop
-mul-analog c = omega (arith, at-most-twelve (c .before .before .before .before .args .table) (twelve (c .before .before .before .before .args .table) _ (c .before .before .before .before .good .0)), c .before .before .before .size .ensures)
+mul-analog c =
+    let start = c .before .before .before .before in
+    let table = start .args .table in
+    omega (arith, at-most-twelve table (twelve table _ (start .good .0)), c .before .before .before .size .ensures)
 
 array-copy-out-analog : tie.Need-array-copy-out-analog Inv-loop μ-loop
-array-copy-out-analog c = omega (arith, at-most-twelve (c .before .before .before .before .args .table) (twelve (c .before .before .before .before .args .table) _ (c .before .before .before .before .good .0)), c .before .before .before .size .ensures)
+array-copy-out-analog c =
+    let start = c .before .before .before .before in
+    let table = start .args .table in
+    omega (arith, at-most-twelve table (twelve table _ (start .good .0)), c .before .before .before .size .ensures)
 
 fit-analog-requires : tie.Need-fit-analog-requires Inv-loop μ-loop
 fit-analog-requires c κs = tt
 
 mul-fit : tie.Need-mul-fit Inv-loop μ-loop
-mul-fit c = omega (arith, at-most-twelve (c .before .before .before .before .before .before .args .table) (twelve (c .before .before .before .before .before .before .args .table) _ (c .before .before .before .before .before .before .good .0)), c .before .before .before .before .before .size .ensures)
+mul-fit c =
+    let start = c .before .before .before .before .before .before in
+    let table = start .args .table in
+    let size = c .before .before .before .before .before .size in
+    omega (arith, at-most-twelve table (twelve table _ (start .good .0)), size .ensures)
 
 element-set-from-fit : tie.Need-element-set-from-fit Inv-loop μ-loop
-element-set-from-fit c = omega (arith, at-most-twelve (c .before .before .before .before .before .before .args .table) (twelve (c .before .before .before .before .before .before .args .table) _ (c .before .before .before .before .before .before .good .0)), c .before .before .before .before .before .size .ensures)
+element-set-from-fit c =
+    let start = c .before .before .before .before .before .before in
+    let table = start .args .table in
+    let size = c .before .before .before .before .before .size in
+    omega (arith, at-most-twelve table (twelve table _ (start .good .0)), size .ensures)
 
 one-requires : tie.Need-one-requires Inv-loop μ-loop
 one-requires c κs = tt
 
 add-j : tie.Need-add-j Inv-loop μ-loop
-add-j c = omega (arith, one-small (eqb (getD (c .before .before .before .before .before .before .loop .next .modules) (c .before .before .before .before .before .before .loop .i) nil .on) 1) (c .one .ensures), at-most-twelve (c .before .before .before .before .before .before .before .before .args .table) (twelve (c .before .before .before .before .before .before .before .before .args .table) _ (c .before .before .before .before .before .before .before .before .good .0)), c .before .before .before .before .before .before .before .size .ensures)
+add-j c =
+    let start = c .before .before .before .before .before .before .before .before in
+    let table = start .args .table in
+    let size = c .before .before .before .before .before .before .before .size in
+    let loop = c .before .before .before .before .before .before .loop in
+    omega (arith, one-small (eqb (getD (loop .next .modules) (loop .i) nil .on) 1) (c .one .ensures), at-most-twelve table (twelve table _ (start .good .0)), size .ensures)
 
 add-i : tie.Need-add-i Inv-loop μ-loop
-add-i c = omega (arith, at-most-twelve (c .before .before .before .before .before .before .before .before .args .table) (twelve (c .before .before .before .before .before .before .before .before .args .table) _ (c .before .before .before .before .before .before .before .before .good .0)), c .before .before .before .before .before .before .before .size .ensures)
+add-i c =
+    let start = c .before .before .before .before .before .before .before .before in
+    let table = start .args .table in
+    let size = c .before .before .before .before .before .before .before .size in
+    omega (arith, at-most-twelve table (twelve table _ (start .good .0)), size .ensures)
 
 loop-less : tie.Need-loop-less Inv-loop μ-loop
-loop-less c = omega (arith, at-most-twelve (c .before .before .before .before .before .before .before .before .args .table) (twelve (c .before .before .before .before .before .before .before .before .args .table) _ (c .before .before .before .before .before .before .before .before .good .0)), c .before .before .before .before .before .before .before .size .ensures)
+loop-less c =
+    let start = c .before .before .before .before .before .before .before .before in
+    let table = start .args .table in
+    let size = c .before .before .before .before .before .before .before .size in
+    omega (arith, at-most-twelve table (twelve table _ (start .good .0)), size .ensures)
 
 loop-again : tie.Need-loop-again Inv-loop μ-loop
 loop-again c =
-    let l = c .before .before .before .before .before .before .loop in
-    let most = at-most-twelve (c .before .before .before .before .before .before .before .before .args .table) (twelve (c .before .before .before .before .before .before .before .before .args .table) _ (c .before .before .before .before .before .before .before .before .good .0)) in
-    let long = twelve (c .before .before .before .before .before .before .before .before .args .table) _ (c .before .before .before .before .before .before .before .before .good .0) in (
+    let start = c .before .before .before .before .before .before .before .before in
+    let table = start .args .table in
+    let count = start .args .count in
+    let t3 = start .args .t3 in
+    let size = c .before .before .before .before .before .before .before .size in
+    let loop = c .before .before .before .before .before .before .loop in
+    let l = loop in
+    let most = at-most-twelve table (twelve table _ (start .good .0)) in
+    let long = twelve table _ (start .good .0) in (
       omega arith,
       omega (arith, one-small (eqb (getD (l .next .modules) (l .i) nil .on) 1) (c .one .ensures)),
-      dealt-turn withAnalog (take (c .before .before .before .before .before .before .before .before .args .count) (c .before .before .before .before .before .before .before .before .args .t3)) (nil .analog) (c .before .before .before .before .before .before .before .before .args .table) (l .next) (l .i) (l .j) (l .inv .2) (omega (arith, c .before .before .before .before .before .before .before .size .ensures)) (omega (arith, l .inv .2 .1, c .before .before .before .before .before .before .before .size .ensures)) _ _
-          (c .before .before .fit-analog .ensures ∙ fitted-same withAnalog (c .before .before .before .before .before .before .before .before .args .t3) (nil .analog) (c .before .before .before .before .before .before .before .before .good .1 .1 .0 .1 .0 .1) (c .before .before .before .before .before .before .before .before .args .count) (l .j) (omega (arith, c .before .before .before .before .before .before .before .size .ensures)) (getD (l .next .modules) (l .i) nil))
+      dealt-turn withAnalog (take count t3) (nil .analog) table (l .next) (l .i) (l .j) (l .inv .2) (omega (arith, size .ensures)) (omega (arith, l .inv .2 .1, size .ensures)) _ _
+          (c .before .before .fit-analog .ensures ∙ fitted-same withAnalog t3 (nil .analog) (start .good .1 .1 .0 .1 .0 .1) count (l .j) (omega (arith, size .ensures)) (getD (l .next .modules) (l .i) nil))
           (c .one .ensures),
     )
 
 returns : tie.Need-returns Inv-loop μ-loop
-returns c = dealt-end withAnalog (take (c .before .before .before .args .count) (c .before .before .before .args .t3)) (nil .analog) (c .before .before .before .args .table) (c .before .loop .next) (c .before .loop .i) (c .before .loop .j) (c .before .loop .inv .2) (omega (arith, c .before .before .size .ensures))
+returns c =
+    let start = c .before .before .before in
+    dealt-end withAnalog (take (start .args .count) (start .args .t3)) (nil .analog) (start .args .table) (c .before .loop .next) (c .before .loop .i) (c .before .loop .j) (c .before .loop .inv .2) (omega (arith, c .before .before .size .ensures))
 
 pub deal-analogs-spec : {M : Type 1} → statement M
 deal-analogs-spec =

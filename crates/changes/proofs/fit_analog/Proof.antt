@@ -1,6 +1,5 @@
 -- Each return is one case of the definition.
 use Prim.Native.Nat.{_-_}
-use lib.ListN.{take}
 use Rattle.changes.proofs.fit_analog.Statement.{statement}
 use Rattle.changes.proofs.fit_analog.Tie as tie
 

@@ -12,7 +12,9 @@ placed-requires : tie.Need-placed-requires
 placed-requires c κs = search needs
 
 returns : tie.Need-returns
-returns c = as-replaced (c .before .before .args .table) (c .before .before .args .adr) (withAnalog (c .before .before .args .analog)) (c .before .member-at .result) (c .before .member-at .ensures) (c .placed .result) (c .placed .ensures)
+returns c =
+    let start = c .before .before in
+    as-replaced (start .args .table) (start .args .adr) (withAnalog (start .args .analog)) (c .before .member-at .result) (c .before .member-at .ensures) (c .placed .result) (c .placed .ensures)
 
 pub with-analog-spec : {M : Type 1} → statement M
 with-analog-spec = tie.close (tie.spec member-at-requires placed-requires returns)

@@ -12,7 +12,9 @@ placed-requires : tie.Need-placed-requires
 placed-requires c κs = search needs
 
 returns : tie.Need-returns
-returns c = as-replaced (c .before .before .args .table) (c .before .before .args .adr) (withSerial (c .before .before .args .serial)) (c .before .member-at .result) (c .before .member-at .ensures) (c .placed .result) (c .placed .ensures)
+returns c =
+    let start = c .before .before in
+    as-replaced (start .args .table) (start .args .adr) (withSerial (start .args .serial)) (c .before .member-at .result) (c .before .member-at .ensures) (c .placed .result) (c .placed .ensures)
 
 pub with-serial-spec : {M : Type 1} → statement M
 with-serial-spec = tie.close (tie.spec member-at-requires placed-requires returns)

@@ -12,7 +12,9 @@ placed-requires : tie.Need-placed-requires
 placed-requires c κs = search needs
 
 returns : tie.Need-returns
-returns c = as-replaced (c .before .before .args .table) (c .before .before .args .adr) (withVersion (c .before .before .args .version)) (c .before .member-at .result) (c .before .member-at .ensures) (c .placed .result) (c .placed .ensures)
+returns c =
+    let start = c .before .before in
+    as-replaced (start .args .table) (start .args .adr) (withVersion (start .args .version)) (c .before .member-at .result) (c .before .member-at .ensures) (c .placed .result) (c .placed .ensures)
 
 pub with-version-spec : {M : Type 1} → statement M
 with-version-spec = tie.close (tie.spec member-at-requires placed-requires returns)

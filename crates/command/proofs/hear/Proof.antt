@@ -5,7 +5,7 @@ use lib.ListN.{length}
 use borrow.Author.Tests.{lt-ltb, le-ltb}
 use borrow.Author.Needs.{needs}
 use Rattle.command.specs.Heard.{words, zeros}
-use Rattle.frame.specs.Judge.{lenid, judge}
+use Rattle.frame.specs.Judge.{lenid}
 use Rattle.command.proofs.hear.Statement.{statement}
 use Rattle.command.proofs.hear.Tie as tie
 
@@ -33,9 +33,10 @@ byte-at-requires c κs = search needs
 returns-2 : tie.Need-returns-2
 unfolding words lenid
 returns-2 c =
+    let start = c .before .before .before .before .before .before in
     let e = c .before .before .before .before .judge .ensures in
     let w = ap (λ (x : ℕ). x % 4096) (c .before .word-at .ensures) in
-    (λ i. record { told = e i; header = c .before .before .header-of .ensures i; lenid = w i; command = c .byte-at .ensures i }) ∙ sym (simp (le-ltb (length (c .before .before .before .before .before .before .args .stretch .now)) 16 (c .before .before .before .if1 .left)))
+    (λ i. record { told = e i; header = c .before .before .header-of .ensures i; lenid = w i; command = c .byte-at .ensures i }) ∙ sym (simp (le-ltb (length (start .args .stretch .now)) 16 (c .before .before .before .if1 .left)))
 
 pub hear-spec : {M : Type 1} → statement M
 hear-spec =

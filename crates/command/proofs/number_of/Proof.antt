@@ -2,7 +2,7 @@
 use mathlib.Core.Path.{sym, ap, _∙_}
 use borrow.Author.Needs.{needs}
 use Rattle.command.specs.Heard.{numberOf}
-use Rattle.frame.specs.Judge.{judge, paper}
+use Rattle.frame.specs.Judge.{paper}
 use Rattle.frame.specs.declared.Judged.{Judged}
 use Rattle.command.proofs.number_of.Statement.{statement}
 use Rattle.command.proofs.number_of.Tie as tie

@@ -14,7 +14,9 @@ same-length : tie.Need-same-length
 same-length c = search needs
 
 returns : tie.Need-returns
-returns c = flat-writes _ (c .before .before .before .write-alarm-group .result) (c .before .before .before .write-alarm-group .last .0) (c .written .result) (c .before .before .before .write-alarm-group .ensures) (c .written .ensures)
+returns c =
+    let write-alarm-group = c .before .before .before .write-alarm-group in
+    flat-writes _ (write-alarm-group .result) (write-alarm-group .last .0) (c .written .result) (write-alarm-group .ensures) (c .written .ensures)
 
 pub alarm-group-spec : {M : Type 1} → statement M
 alarm-group-spec =

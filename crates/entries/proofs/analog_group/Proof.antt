@@ -14,7 +14,9 @@ same-length : tie.Need-same-length
 same-length c = search needs
 
 returns : tie.Need-returns
-returns c = flat-writes _ (c .before .before .before .write-analog-group .result) (c .before .before .before .write-analog-group .last .0) (c .written .result) (c .before .before .before .write-analog-group .ensures) (c .written .ensures)
+returns c =
+    let write-analog-group = c .before .before .before .write-analog-group in
+    flat-writes _ (write-analog-group .result) (write-analog-group .last .0) (c .written .result) (write-analog-group .ensures) (c .written .ensures)
 
 pub analog-group-spec : {M : Type 1} → statement M
 analog-group-spec =

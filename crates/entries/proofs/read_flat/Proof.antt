@@ -13,7 +13,9 @@ reply-requires : tie.Need-reply-requires
 reply-requires c κs = search needs
 
 returns : tie.Need-returns
-returns c = record { told = c .reply .ensures ∙ ap (λ (l : Read.Left). replyOf (l .outcome) (l .maker)) (c .before .before .before .read .ensures .is); members-are = ap (λ (l : Read.Left). l .modules) (c .before .before .before .read .ensures .is); kept = c .before .before .before .read .ensures .kept }
+returns c =
+    let read = c .before .before .before .read in
+    record { told = c .reply .ensures ∙ ap (λ (l : Read.Left). replyOf (l .outcome) (l .maker)) (read .ensures .is); members-are = ap (λ (l : Read.Left). l .modules) (read .ensures .is); kept = read .ensures .kept }
 
 pub read-flat-spec : {M : Type 1} → statement M
 read-flat-spec = tie.close (tie.spec read-requires reply-requires returns)

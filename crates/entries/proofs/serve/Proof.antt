@@ -15,13 +15,20 @@ same-length : tie.Need-same-length
 same-length c = search needs
 
 returns : tie.Need-returns
-returns c = flat-serves _ (c .before .before .before .before .before .before .before .before .args .given .count) (c .before .before .before .before .answer .result) (c .before .before .before .before .answer .last .1 .1 .1 .0) (c .before .answered .result) (c .before .before .before .before .answer .result .off) (c .before .before .before .before .answer .ensures) (c .before .answered .ensures) (rw (lt-ltb _ _ (c .if1 .taken)))
+returns c =
+    let start = c .before .before .before .before .before .before .before .before in
+    let answer = c .before .before .before .before .answer in
+    flat-serves _ (start .args .given .count) (answer .result) (answer .last .1 .1 .1 .0) (c .before .answered .result) (answer .result .off) (answer .ensures) (c .before .answered .ensures) (rw (lt-ltb _ _ (c .if1 .taken)))
 
 same-length-2 : tie.Need-same-length-2
 same-length-2 c = search needs
 
 returns-2 : tie.Need-returns-2
-returns-2 c = flat-serves _ (c .before .before .before .before .before .before .before .before .args .given .count) (c .before .before .before .before .answer .result) (c .before .before .before .before .answer .last .1 .1 .1 .0) (c .before .answered .result) (c .before .before .before .before .before .before .before .before .args .given .count) (c .before .before .before .before .answer .ensures) (c .before .answered .ensures) (rw (le-ltb _ _ (c .if1 .left)))
+returns-2 c =
+    let start = c .before .before .before .before .before .before .before .before in
+    let given = start .args .given in
+    let answer = c .before .before .before .before .answer in
+    flat-serves _ (given .count) (answer .result) (answer .last .1 .1 .1 .0) (c .before .answered .result) (given .count) (answer .ensures) (c .before .answered .ensures) (rw (le-ltb _ _ (c .if1 .left)))
 
 pub serve-spec : {M : Type 1} → statement M
 serve-spec =

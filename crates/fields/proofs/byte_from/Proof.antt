@@ -27,16 +27,22 @@ add-t9 c = search needs
 
 returns : tie.Need-returns
 returns c =
-    let s : List ℕ = unhexes (c .before .before .before .args .info .now) in
-    let n = length-unhexes (c .before .before .before .args .info .now) in
-    let h : c .before .before .before .args .at < length s = omega (arith, n) in
-    ap (λ (v : ℕ). read v (c .before .before .before .args .at + 1)) (c .byte-at .ensures ∙ byte-unhexes (c .before .before .before .args .info .now) (c .before .before .before .args .at) h)
-    ∙ found byte 0 s (c .before .before .before .args .at) (byte-here s (c .before .before .before .args .at) h) (omega arith)
+    let start = c .before .before .before in
+    let info = start .args .info .now in
+    let place = start .args .at in
+    let s : List ℕ = unhexes info in
+    let n = length-unhexes info in
+    let h : place < length s = omega (arith, n) in
+    ap (λ (v : ℕ). read v (place + 1)) (c .byte-at .ensures ∙ byte-unhexes info place h)
+    ∙ found byte 0 s place (byte-here s place h) (omega arith)
 
 returns-2 : tie.Need-returns-2
 returns-2 c =
-    let n = length-unhexes (c .before .before .args .info .now) in
-    stops byte 0 (unhexes (c .before .before .args .info .now)) (c .before .before .args .at) (byte-ends (unhexes (c .before .before .args .info .now)) (c .before .before .args .at) (omega (arith, n)))
+    let start = c .before .before in
+    let info = start .args .info .now in
+    let place = start .args .at in
+    let n = length-unhexes info in
+    stops byte 0 (unhexes info) place (byte-ends (unhexes info) place (omega (arith, n)))
 
 pub byte-from-spec : {M : Type 1} → statement M
 byte-from-spec = tie.close (tie.spec mul-byte-at byte-at-requires cast-t8 add-t9 returns returns-2)

@@ -15,13 +15,19 @@ use Rattle.fields.proofs.word_from.Tie as tie
 
 returns : tie.Need-returns
 returns c =
-    let n = length-unhexes (c .before .before .args .info .now) in
-    stops word 0 (unhexes (c .before .before .args .info .now)) (c .before .before .args .at) (word-ends (unhexes (c .before .before .args .info .now)) (c .before .before .args .at) (omega (arith, n)))
+    let start = c .before .before in
+    let info = start .args .info .now in
+    let place = start .args .at in
+    let n = length-unhexes info in
+    stops word 0 (unhexes info) place (word-ends (unhexes info) place (omega (arith, n)))
 
 returns-2 : tie.Need-returns-2
 returns-2 c =
-    let n = length-unhexes (c .before .before .before .args .info .now) in
-    stops word 0 (unhexes (c .before .before .before .args .info .now)) (c .before .before .before .args .at) (word-ends (unhexes (c .before .before .before .args .info .now)) (c .before .before .before .args .at) (omega (arith, n)))
+    let start = c .before .before .before in
+    let info = start .args .info .now in
+    let place = start .args .at in
+    let n = length-unhexes info in
+    stops word 0 (unhexes info) place (word-ends (unhexes info) place (omega (arith, n)))
 
 mul-word-at : tie.Need-mul-word-at
 mul-word-at c = search needs
@@ -34,11 +40,14 @@ add-t7 c = search needs
 
 returns-3 : tie.Need-returns-3
 returns-3 c =
-    let s : List ℕ = unhexes (c .before .before .before .before .args .info .now) in
-    let n = length-unhexes (c .before .before .before .before .args .info .now) in
-    let h : c .before .before .before .before .args .at + 1 < length s = omega (arith, n) in
-    ap (λ (v : ℕ). read v (c .before .before .before .before .args .at + 2)) (c .word-at .ensures ∙ word-unhexes (c .before .before .before .before .args .info .now) (c .before .before .before .before .args .at) h)
-    ∙ found word 0 s (c .before .before .before .before .args .at) (word-here s (c .before .before .before .before .args .at) h) (omega arith)
+    let start = c .before .before .before .before in
+    let info = start .args .info .now in
+    let place = start .args .at in
+    let s : List ℕ = unhexes info in
+    let n = length-unhexes info in
+    let h : place + 1 < length s = omega (arith, n) in
+    ap (λ (v : ℕ). read v (place + 2)) (c .word-at .ensures ∙ word-unhexes info place h)
+    ∙ found word 0 s place (word-here s place h) (omega arith)
 
 pub word-from-spec : {M : Type 1} → statement M
 word-from-spec =

@@ -24,7 +24,10 @@ returns : tie.Need-returns
 returns c = sym (ap (λ (k : Outcome). replyOf (Read.paper k) (c .before .before .before .args .maker)) (c .before .outcome .given .1))
 
 returns-2 : tie.Need-returns-2
-returns-2 c = ap (λ (k : ℕ). replyOf (Read.refused k) (c .before .before .before .before .args .maker)) (c .number .ensures) ∙ sym (ap (λ (k : Outcome). replyOf (Read.paper k) (c .before .before .before .before .args .maker)) (c .before .before .outcome2 .given .1))
+returns-2 c =
+    let start = c .before .before .before .before in
+    let maker = start .args .maker in
+    ap (λ (k : ℕ). replyOf (Read.refused k) maker) (c .number .ensures) ∙ sym (ap (λ (k : Outcome). replyOf (Read.paper k) maker) (c .before .before .outcome2 .given .1))
 
 pub reply-spec : {M : Type 1} → statement M
 reply-spec =

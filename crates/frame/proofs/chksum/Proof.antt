@@ -48,8 +48,9 @@ loop-less c = omega arith
 
 loop-again : tie.Need-loop-again Inv-loop μ-loop
 loop-again c =
+    let start = c .before .before .before .before .before .before in
     let l = c .before .before .before .before .loop in
-    let s = c .before .before .before .before .before .before .args .characters .now in
+    let s = start .args .characters .now in
     let wide : l .i + 64 - l .i ≡ 64 = omega arith in
     let here : c .before .sum-of .result ≡ sum (take 64 (drop (l .i) s)) % 65536 = c .before .sum-of .ensures ∙ ap (λ (k : ℕ). sum (take k (drop (l .i) s)) % 65536) wide in
     (omega arith, rw (c .wrapping-add-u16 .ensures) (sum-block s (l .i) 64 (l .total) (c .before .sum-of .result) here (l .inv .1)))
@@ -74,8 +75,10 @@ wrapping-sub-u16-requires c κs = search needs
 
 returns : tie.Need-returns Inv-loop μ-loop
 returns c =
-    let l = c .before .before .before .before .before .loop in
-    let s = c .before .before .before .before .before .before .before .args .characters .now in
+    let start = c .before .before .before .before .before .before .before in
+    let loop = c .before .before .before .before .before .loop in
+    let l = loop in
+    let s = start .args .characters .now in
     let long : length (drop (l .i) s) ≤ length s - l .i = omega (arith, length-drop (l .i) s) in
     let rest : c .before .before .sum-of2 .result ≡ sum (drop (l .i) s) % 65536 = c .before .before .sum-of2 .ensures ∙ ap (λ (t : _). sum t % 65536) (take-all (length s - l .i) (drop (l .i) s) long) in
     sum-end s (l .i) (l .total) (c .before .before .sum-of2 .result) (c .before .wrapping-add-u162 .result) (c .wrapping-sub-u16 .result) rest (l .inv .1) (c .before .wrapping-add-u162 .ensures) (search needs) (c .wrapping-sub-u16 .ensures)

@@ -1,7 +1,7 @@
 -- The four bytes at their places.
 use Prim.Native.Nat.{_-_}
 use borrow.Author.Needs.{needs}
-use Rattle.frame.specs.Judge.{header, need}
+use Rattle.frame.specs.Judge.{header}
 use Rattle.frame.proofs.header_of.Statement.{statement}
 use Rattle.frame.proofs.header_of.Tie as tie
 

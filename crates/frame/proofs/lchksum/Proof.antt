@@ -2,8 +2,7 @@
 use mathlib.Core.Path.{refl}
 use Prim.Native.Nat.{_-_}
 use borrow.Author.Needs.{needs}
-use Rattle.frame.specs.Judge.{need}
-use Rattle.frame.specs.Frame.{lchksum, sum, chksum}
+use Rattle.frame.specs.Frame.{lchksum}
 use Rattle.frame.proofs.lchksum.Statement.{statement}
 use Rattle.frame.proofs.lchksum.Tie as tie
 

@@ -1,11 +1,9 @@
 -- LCHKSUM is below 16, so LENGTH fits.
 use Prim.Native.Nat.{_-_, _%_}
 use native.Mathlib.Omega.{arith}
-use lib.ListN.{length}
 use borrow.Author.Needs.{needs}
 use Rattle.frame.proofs.Steps.{lchksum-small}
-use Rattle.frame.specs.Judge.{lenid, need}
-use Rattle.frame.specs.Frame.{lchksum, lengthOf, sum, chksum}
+use Rattle.frame.specs.Frame.{lengthOf}
 use Rattle.frame.proofs.length_of.Statement.{statement}
 use Rattle.frame.proofs.length_of.Tie as tie
 

@@ -1,9 +1,7 @@
 -- SOI, and the characters of six bytes after it.
 use Prim.Native.Nat.{_-_}
 use native.Mathlib.Omega.{arith}
-use lib.ListN.{length}
 use borrow.Author.Needs.{needs}
-use Rattle.frame.specs.Judge.{need}
 use Rattle.frame.specs.Frame.{packed}
 use Rattle.buffer.proofs.Puts.{put-then}
 use Rattle.hex.specs.Hex.{hexes}
@@ -24,14 +22,20 @@ slice-aggregate-put-bytes c = search needs
 
 put-bytes-requires : tie.Need-put-bytes-requires
 unfolding packed hexes
-put-bytes-requires c κs = record { fits = omega (arith, c .before .before .before .before .before .before .before .pre .fits, c .before .before .before .before .put .ensures .end, c .before .before .before .before .put .kept) }
+put-bytes-requires c κs =
+    let start = c .before .before .before .before .before .before .before in
+    let put = c .before .before .before .before .put in
+    record { fits = omega (arith, start .pre .fits, put .ensures .end, put .kept) }
 
 same-length : tie.Need-same-length
 same-length c = search needs
 
 returns : tie.Need-returns
 unfolding packed hexes
-returns c = put-then (record { fits = omega (arith, c .before .before .before .before .before .before .before .before .before .before .pre .fits) }) (c .before .before .before .before .before .before .before .put .ensures) (c .before .before .put-bytes .ensures)
+returns c =
+    let start = c .before .before .before .before .before .before .before .before .before .before in
+    let put = c .before .before .before .before .before .before .before .put in
+    put-then (record { fits = omega (arith, start .pre .fits) }) (put .ensures) (c .before .before .put-bytes .ensures)
 
 pub put-head-spec : {M : Type 1} → statement M
 put-head-spec =

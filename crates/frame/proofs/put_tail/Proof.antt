@@ -1,14 +1,10 @@
 -- CHKSUM, and CR after it.
 use Prim.Native.Nat.{_-_}
 use native.Mathlib.Omega.{arith}
-use lib.ListN.{length}
 use borrow.Author.Needs.{needs}
-use Rattle.frame.proofs.Steps.{sum-end}
-use Rattle.frame.specs.Judge.{need}
-use Rattle.frame.specs.Frame.{sum, chksum}
 use Rattle.buffer.proofs.Puts.{put-then}
 use Rattle.hex.proofs.Laws.{length-hexes}
-use Rattle.hex.specs.Hex.{hexes, word}
+use Rattle.hex.specs.Hex.{word}
 use Rattle.frame.proofs.put_tail.Statement.{statement}
 use Rattle.frame.proofs.put_tail.Tie as tie
 
@@ -25,16 +21,26 @@ chksum-requires : tie.Need-chksum-requires
 chksum-requires c κs = search needs
 
 put-word-requires : tie.Need-put-word-requires
-put-word-requires c κs = record { fits = omega (arith, c .before .before .before .before .before .pre .1, length-hexes (word (c .before .chksum .result))) }
+put-word-requires c κs =
+    let start = c .before .before .before .before .before in
+    record { fits = omega (arith, start .pre .1, length-hexes (word (c .before .chksum .result))) }
 
 put-requires : tie.Need-put-requires
-put-requires c κs = record { fits = omega (arith, c .before .before .before .before .before .before .before .before .before .pre .1, length-hexes (word (c .before .before .before .before .before .chksum .result)), c .before .before .before .put-word .ensures .end, c .before .before .before .put-word .kept) }
+put-requires c κs =
+    let start = c .before .before .before .before .before .before .before .before .before in
+    let the-chksum = c .before .before .before .before .before .chksum in
+    let put-word = c .before .before .before .put-word in
+    record { fits = omega (arith, start .pre .1, length-hexes (word (the-chksum .result)), put-word .ensures .end, put-word .kept) }
 
 same-length : tie.Need-same-length
 same-length c = search needs
 
 returns : tie.Need-returns
-returns c = rw (← c .before .before .before .before .before .before .before .before .chksum .ensures) (put-then (record { fits = omega (arith, c .before .before .before .before .before .before .before .before .before .before .before .before .pre .1, length-hexes (word (c .before .before .before .before .before .before .before .before .chksum .result))) }) (c .before .before .before .before .before .before .put-word .ensures) (c .before .before .put .ensures))
+returns c =
+    let start = c .before .before .before .before .before .before .before .before .before .before .before .before in
+    let the-chksum = c .before .before .before .before .before .before .before .before .chksum in
+    let put-word = c .before .before .before .before .before .before .put-word in
+    rw (← the-chksum .ensures) (put-then (record { fits = omega (arith, start .pre .1, length-hexes (word (the-chksum .result))) }) (put-word .ensures) (c .before .before .put .ensures))
 
 pub put-tail-spec : {M : Type 1} → statement M
 put-tail-spec =

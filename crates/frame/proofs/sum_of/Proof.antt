@@ -34,7 +34,10 @@ loop-less : tie.Need-loop-less Inv-loop μ-loop
 loop-less c = omega arith
 
 loop-again : tie.Need-loop-again Inv-loop μ-loop
-loop-again c = (omega arith, search needs, rw (c .wrapping-add-u16 .ensures) (sum-turn (c .before .before .before .before .before .args .characters .now) (c .before .before .before .loop .i) (c .before .before .before .loop .total) (omega arith) (c .before .before .before .loop .inv .2)))
+loop-again c =
+    let start = c .before .before .before .before .before in
+    let loop = c .before .before .before .loop in
+    (omega arith, search needs, rw (c .wrapping-add-u16 .ensures) (sum-turn (start .args .characters .now) (loop .i) (loop .total) (omega arith) (loop .inv .2)))
 
 returns : tie.Need-returns Inv-loop μ-loop
 returns c = sum-left (c .before .before .before .args .characters .now) (c .before .loop .i) (c .before .loop .total) (omega arith) (c .before .loop .inv .2) (c .before .loop .inv .1)

@@ -33,11 +33,19 @@ gate-frame-requires c κs = search needs
 
 returns-3 : tie.Need-returns-3
 unfolding gate
-returns-3 c = sym (ap (λ (j : Judged). judgedFirst (paperJudged j) (frameGate (c .before .before .before .before .before .before .before .args .question) (wordsOf (c .before .before .before .before .before .before .before .args .heard)))) (c .before .judged .given .1)) ∙ sym (simp (← c .before .before .before .before .before .before .is-asked .ensures, c .before .before .before .before .before .if1 .left, ← c .before .before .before .before .has-member .ensures, c .before .before .before .if2 .left))
+returns-3 c =
+    let start = c .before .before .before .before .before .before .before in
+    let is-asked = c .before .before .before .before .before .before .is-asked in
+    let if1 = c .before .before .before .before .before .if1 in
+    sym (ap (λ (j : Judged). judgedFirst (paperJudged j) (frameGate (start .args .question) (wordsOf (start .args .heard)))) (c .before .judged .given .1)) ∙ sym (simp (← is-asked .ensures, if1 .left, ← c .before .before .before .before .has-member .ensures, c .before .before .before .if2 .left))
 
 returns-4 : tie.Need-returns-4
 unfolding gate
-returns-4 c = c .gate-frame .ensures ∙ sym (ap (λ (j : Judged). judgedFirst (paperJudged j) (frameGate (c .before .before .before .before .before .before .before .args .question) (wordsOf (c .before .before .before .before .before .before .before .args .heard)))) (c .before .enum-told .given .1)) ∙ sym (simp (← c .before .before .before .before .before .before .is-asked .ensures, c .before .before .before .before .before .if1 .left, ← c .before .before .before .before .has-member .ensures, c .before .before .before .if2 .left))
+returns-4 c =
+    let start = c .before .before .before .before .before .before .before in
+    let is-asked = c .before .before .before .before .before .before .is-asked in
+    let if1 = c .before .before .before .before .before .if1 in
+    c .gate-frame .ensures ∙ sym (ap (λ (j : Judged). judgedFirst (paperJudged j) (frameGate (start .args .question) (wordsOf (start .args .heard)))) (c .before .enum-told .given .1)) ∙ sym (simp (← is-asked .ensures, if1 .left, ← c .before .before .before .before .has-member .ensures, c .before .before .before .if2 .left))
 
 pub gate-spec : {M : Type 1} → statement M
 gate-spec =

@@ -1,6 +1,6 @@
 -- Each return has passed the lines of the column before its own.
 use borrow.Author.Needs.{needs}
-use Rattle.gate.specs.Gate.{frameGate, gate}
+use Rattle.gate.specs.Gate.{frameGate}
 use Rattle.gate.proofs.gate_frame.Statement.{statement}
 use Rattle.gate.proofs.gate_frame.Tie as tie
 
@@ -21,11 +21,15 @@ returns-3 c = simp (← c .before .is-code .ensures, c .before .before .before .
 
 returns-4 : tie.Need-returns-4
 unfolding frameGate
-returns-4 c = simp (← c .before .before .before .is-code .ensures, c .before .before .before .before .before .before .if1 .left, c .before .before .before .before .if2 .left, c .before .before .if3 .left, c .if4 .taken)
+returns-4 c =
+    let if1 = c .before .before .before .before .before .before .if1 in
+    simp (← c .before .before .before .is-code .ensures, if1 .left, c .before .before .before .before .if2 .left, c .before .before .if3 .left, c .if4 .taken)
 
 returns-5 : tie.Need-returns-5
 unfolding frameGate
-returns-5 c = simp (← c .before .before .before .is-code .ensures, c .before .before .before .before .before .before .if1 .left, c .before .before .before .before .if2 .left, c .before .before .if3 .left, c .if4 .left)
+returns-5 c =
+    let if1 = c .before .before .before .before .before .before .if1 in
+    simp (← c .before .before .before .is-code .ensures, if1 .left, c .before .before .before .before .if2 .left, c .before .before .if3 .left, c .if4 .left)
 
 pub gate-frame-spec : {M : Type 1} → statement M
 gate-frame-spec =

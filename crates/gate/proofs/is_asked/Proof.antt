@@ -17,7 +17,10 @@ is-master-requires c κs = search needs
 
 returns : tie.Need-returns
 unfolding asks
-returns c = rw (c .before .before .before .before .before .before .terms-of .ensures, ap termsOf (c .before .before .before .before .before .before .before .kind-of .ensures), c .before .before .before .is-master .ensures)
+returns c =
+    let kind-of = c .before .before .before .before .before .before .before .kind-of in
+    let terms-of = c .before .before .before .before .before .before .terms-of in
+    rw (terms-of .ensures, ap termsOf (kind-of .ensures), c .before .before .before .is-master .ensures)
 
 pub is-asked-spec : {M : Type 1} → statement M
 is-asked-spec = tie.close (tie.spec kind-of-requires terms-of-requires is-master-requires returns)

@@ -19,7 +19,10 @@ returns-3 c = simp (le-leb (c .before .before .args .code) 6 (omega arith))
 
 returns-4 : tie.Need-returns-4
 unfolding isCode
-returns-4 c = simp (lt-leb (c .before .before .args .code) 6 (omega arith), ne-eqb (c .before .before .args .code) 144 (c .before .match .rest .0 .1), ne-eqb (c .before .before .args .code) 145 (c .before .match .rest .1))
+returns-4 c =
+    let start = c .before .before in
+    let code = start .args .code in
+    simp (lt-leb code 6 (omega arith), ne-eqb code 144 (c .before .match .rest .0 .1), ne-eqb code 145 (c .before .match .rest .1))
 
 pub is-code-spec : {M : Type 1} → statement M
 is-code-spec = tie.close (tie.spec returns returns-2 returns-3 returns-4)

@@ -2,7 +2,7 @@
 use mathlib.Core.Path.{sym, ap, _∙_}
 use Prim.Native.Nat.{_-_}
 use native.Mathlib.Omega.{arith}
-use lib.ListN.{length, take}
+use lib.ListN.{length}
 use mir.Syntax.{w8}
 use mir.Val.{Fits}
 use borrow.Author.Needs.{needs}
@@ -17,9 +17,11 @@ alarm-size-requires c κs = search needs
 
 returns : tie.Need-returns
 returns c =
-    let a : Fits w8 (c .before .before .before .before .args .member .alarm .«cell_count») = search needs in
-    let b : Fits w8 (c .before .before .before .before .args .member .alarm .«temperature_count») = search needs in
-    (c .alarm-size .ensures ∙ sym (size (c .before .before .before .before .args .member .alarm) (c .before .before .before .before .pre)) ∙ ap length (text-on alarmText (c .before .before .before .before .args .member) (c .before .before .if1 .taken)), omega (arith, c .alarm-size .ensures, a .fits, b .fits))
+    let start = c .before .before .before .before in
+    let member = start .args .member in
+    let a : Fits w8 (member .alarm .«cell_count») = search needs in
+    let b : Fits w8 (member .alarm .«temperature_count») = search needs in
+    (c .alarm-size .ensures ∙ sym (size (member .alarm) (start .pre)) ∙ ap length (text-on alarmText member (c .before .before .if1 .taken)), omega (arith, c .alarm-size .ensures, a .fits, b .fits))
 
 returns-2 : tie.Need-returns-2
 returns-2 c = (ap length (text-off alarmText (c .before .before .args .member) (c .if1 .left)), omega arith)

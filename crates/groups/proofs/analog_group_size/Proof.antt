@@ -6,12 +6,11 @@ use native.Mathlib.Omega.{arith}
 use lib.Seq.{take-length}
 use lib.ListN.{length, take, getD, length-append}
 use Rattle.record.specs.declared.Module.{Module}
-use Rattle.groups.proofs.Texts.{all-more, all-none, analog-group}
+use Rattle.groups.proofs.Texts.{all-more, all-none}
 use Rattle.groups.specs.Groups.{textOn, textOfAll, analogText}
 use Rattle.rules.proofs.Fine.{keeps-parts, count-is, place-fine}
 use Rattle.table.proofs.Members.{nil}
 use Rattle.table.proofs.Twelve.{twelve}
-use Rattle.table.specs.Rule.{keeps}
 use Rattle.table.specs.Table.{members}
 use Rattle.analog_writer.proofs.Whole.{size}
 use Rattle.groups.proofs.analog_group_size.Statement.{statement}
@@ -27,34 +26,51 @@ loop-holds : tie.Need-loop-holds Inv-loop μ-loop
 loop-holds c = (omega arith, omega arith, omega (arith, ap length (all-none analogText (members (c .args .t1)))))
 
 mul-member : tie.Need-mul-member Inv-loop μ-loop
-mul-member c = omega (arith, keeps-parts (c .before .before .args .t1) (c .before .before .pre) .0)
+mul-member c =
+    let start = c .before .before in
+    omega (arith, keeps-parts (start .args .t1) (start .pre) .0)
 
 element-copy-out-member : tie.Need-element-copy-out-member Inv-loop μ-loop
-element-copy-out-member c = omega (arith, keeps-parts (c .before .before .args .t1) (c .before .before .pre) .0)
+element-copy-out-member c =
+    let start = c .before .before in
+    omega (arith, keeps-parts (start .args .t1) (start .pre) .0)
 
 analog-size-on-requires : tie.Need-analog-size-on-requires Inv-loop μ-loop
-analog-size-on-requires c κs = place-fine (c .before .before .before .args .t1) (twelve (c .before .before .before .args .t1) _ (c .before .before .before .good .0)) (c .before .before .before .pre) (c .before .before .loop .i) (omega arith) .analog-ok
+analog-size-on-requires c κs =
+    let start = c .before .before .before in
+    let t1 = start .args .t1 in
+    place-fine t1 (twelve t1 _ (start .good .0)) (start .pre) (c .before .before .loop .i) (omega arith) .analog-ok
 
 add-size : tie.Need-add-size Inv-loop μ-loop
-add-size c = omega (arith, keeps-parts (c .before .before .before .before .args .t1) (c .before .before .before .before .pre) .0, c .analog-size-on .ensures .1)
+add-size c =
+    let start = c .before .before .before .before in
+    omega (arith, keeps-parts (start .args .t1) (start .pre) .0, c .analog-size-on .ensures .1)
 
 add-i : tie.Need-add-i Inv-loop μ-loop
-add-i c = omega (arith, keeps-parts (c .before .before .before .before .args .t1) (c .before .before .before .before .pre) .0)
+add-i c =
+    let start = c .before .before .before .before in
+    omega (arith, keeps-parts (start .args .t1) (start .pre) .0)
 
 loop-less : tie.Need-loop-less Inv-loop μ-loop
-loop-less c = omega (arith, keeps-parts (c .before .before .before .before .args .t1) (c .before .before .before .before .pre) .0)
+loop-less c =
+    let start = c .before .before .before .before in
+    omega (arith, keeps-parts (start .args .t1) (start .pre) .0)
 
 loop-again : tie.Need-loop-again Inv-loop μ-loop
 loop-again c =
+    let start = c .before .before .before .before in
+    let t1 = start .args .t1 in
     let l = c .before .before .before .loop in
-    let more = ap length (all-more analogText (c .before .before .before .before .args .t1) (l .i) (omega (arith, count-is (c .before .before .before .before .args .t1) (twelve (c .before .before .before .before .args .t1) _ (c .before .before .before .before .good .0)) (c .before .before .before .before .pre)))) in
-    (omega arith, omega (arith, c .analog-size-on .ensures .1), omega (arith, l .inv .2, c .analog-size-on .ensures .0, more, length-append (textOfAll analogText (take (l .i) (members (c .before .before .before .before .args .t1)))) (textOn analogText (getD (c .before .before .before .before .args .t1 .modules) (l .i) nil))))
+    let more = ap length (all-more analogText t1 (l .i) (omega (arith, count-is t1 (twelve t1 _ (start .good .0)) (start .pre)))) in
+    (omega arith, omega (arith, c .analog-size-on .ensures .1), omega (arith, l .inv .2, c .analog-size-on .ensures .0, more, length-append (textOfAll analogText (take (l .i) (members t1))) (textOn analogText (getD (t1 .modules) (l .i) nil))))
 
 returns : tie.Need-returns Inv-loop μ-loop
 returns c =
+    let start = c .before .before in
+    let t1 = start .args .t1 in
     let l = c .before .loop in
-    let all : l .i ≡ length (members (c .before .before .args .t1)) = omega (arith, count-is (c .before .before .args .t1) (twelve (c .before .before .args .t1) _ (c .before .before .good .0)) (c .before .before .pre)) in
-    l .inv .2 ∙ ap (λ (k : ℕ). 2 + length (textOfAll analogText (take k (members (c .before .before .args .t1))))) all ∙ ap (λ (s : List Module). 2 + length (textOfAll analogText s)) (take-length (members (c .before .before .args .t1)))
+    let all : l .i ≡ length (members t1) = omega (arith, count-is t1 (twelve t1 _ (start .good .0)) (start .pre)) in
+    l .inv .2 ∙ ap (λ (k : ℕ). 2 + length (textOfAll analogText (take k (members t1)))) all ∙ ap (λ (s : List Module). 2 + length (textOfAll analogText s)) (take-length (members t1))
 
 pub analog-group-size-spec : {M : Type 1} → statement M
 analog-group-size-spec =

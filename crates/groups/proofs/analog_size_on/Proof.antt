@@ -2,7 +2,7 @@
 use mathlib.Core.Path.{sym, ap, _∙_}
 use Prim.Native.Nat.{_-_}
 use native.Mathlib.Omega.{arith}
-use lib.ListN.{length, take}
+use lib.ListN.{length}
 use mir.Syntax.{w8}
 use mir.Val.{Fits}
 use borrow.Author.Needs.{needs}
@@ -17,9 +17,11 @@ analog-size-requires c κs = search needs
 
 returns : tie.Need-returns
 returns c =
-    let a : Fits w8 (c .before .before .before .before .args .member .analog .«cell_count») = search needs in
-    let b : Fits w8 (c .before .before .before .before .args .member .analog .«temperature_count») = search needs in
-    (c .analog-size .ensures ∙ sym (size (c .before .before .before .before .args .member .analog) (c .before .before .before .before .pre)) ∙ ap length (text-on analogText (c .before .before .before .before .args .member) (c .before .before .if1 .taken)), omega (arith, c .analog-size .ensures, size-small (c .before .before .before .before .args .member .analog .«cell_count») (c .before .before .before .before .args .member .analog .«temperature_count») (c .before .before .before .before .args .member .analog .total) (a .fits) (b .fits)))
+    let start = c .before .before .before .before in
+    let member = start .args .member in
+    let a : Fits w8 (member .analog .«cell_count») = search needs in
+    let b : Fits w8 (member .analog .«temperature_count») = search needs in
+    (c .analog-size .ensures ∙ sym (size (member .analog) (start .pre)) ∙ ap length (text-on analogText member (c .before .before .if1 .taken)), omega (arith, c .analog-size .ensures, size-small (member .analog .«cell_count») (member .analog .«temperature_count») (member .analog .total) (a .fits) (b .fits)))
 
 returns-2 : tie.Need-returns-2
 returns-2 c = (ap length (text-off analogText (c .before .before .args .member) (c .if1 .left)), omega arith)

@@ -10,7 +10,6 @@ use Rattle.groups.specs.Groups.{textOn, textOfAll, analogText}
 use Rattle.rules.proofs.Fine.{keeps-parts, count-is, place-fine}
 use Rattle.table.proofs.Members.{nil}
 use Rattle.table.proofs.Twelve.{twelve}
-use Rattle.table.specs.Rule.{keeps}
 use Rattle.table.specs.Table.{members}
 use Rattle.buffer.proofs.Puts.{put-then, put-none}
 use Rattle.buffer.specs.Put.{Room, Put}
@@ -27,44 +26,61 @@ loop-holds : tie.Need-loop-holds Inv-loop μ-loop
 loop-holds c = (omega arith, refl, subst (λ (x : List ℕ). Put (c .before .args .out .now) (c .before .args .at) x (c .before .args .out .now) (c .before .args .at)) (all-none analogText (members (c .before .args .t3))) (put-none (c .before .args .out .now) (c .before .args .at)))
 
 mul-member : tie.Need-mul-member Inv-loop μ-loop
-mul-member c = omega (arith, keeps-parts (c .before .before .before .args .t3) (c .before .before .before .pre .0) .0)
+mul-member c =
+    let start = c .before .before .before in
+    omega (arith, keeps-parts (start .args .t3) (start .pre .0) .0)
 
 element-copy-out-member : tie.Need-element-copy-out-member Inv-loop μ-loop
-element-copy-out-member c = omega (arith, keeps-parts (c .before .before .before .args .t3) (c .before .before .before .pre .0) .0)
+element-copy-out-member c =
+    let start = c .before .before .before in
+    omega (arith, keeps-parts (start .args .t3) (start .pre .0) .0)
 
 put-analog-on-requires : tie.Need-put-analog-on-requires Inv-loop μ-loop
 put-analog-on-requires c κs =
+    let start = c .before .before .before .before .before in
+    let t3 = start .args .t3 in
     let l = c .before .before .before .loop in
-    let k = count-is (c .before .before .before .before .before .args .t3) (twelve (c .before .before .before .before .before .args .t3) _ (c .before .before .before .before .before .good .1 .1 .0)) (c .before .before .before .before .before .pre .0) in
-    let more = ap length (all-more analogText (c .before .before .before .before .before .args .t3) (l .i) (omega (arith, k))) in (
-      place-fine (c .before .before .before .before .before .args .t3) (twelve (c .before .before .before .before .before .args .t3) _ (c .before .before .before .before .before .good .1 .1 .0)) (c .before .before .before .before .before .pre .0) (l .i) (omega arith) .analog-ok,
-      record { fits = omega (arith, c .before .before .before .before .before .pre .1 .fits, l .inv .2 .end, l .inv .1, first-short analogText (members (c .before .before .before .before .before .args .t3)) (l .i + 1), more, length-append (textOfAll analogText (take (l .i) (members (c .before .before .before .before .before .args .t3)))) (textOn analogText (getD (c .before .before .before .before .before .args .t3 .modules) (l .i) nil))) },
+    let k = count-is t3 (twelve t3 _ (start .good .1 .1 .0)) (start .pre .0) in
+    let more = ap length (all-more analogText t3 (l .i) (omega (arith, k))) in (
+      place-fine t3 (twelve t3 _ (start .good .1 .1 .0)) (start .pre .0) (l .i) (omega arith) .analog-ok,
+      record { fits = omega (arith, start .pre .1 .fits, l .inv .2 .end, l .inv .1, first-short analogText (members t3) (l .i + 1), more, length-append (textOfAll analogText (take (l .i) (members t3))) (textOn analogText (getD (t3 .modules) (l .i) nil))) },
     )
 
 add-i : tie.Need-add-i Inv-loop μ-loop
-add-i c = omega (arith, keeps-parts (c .before .before .before .before .before .before .before .before .args .t3) (c .before .before .before .before .before .before .before .before .pre .0) .0)
+add-i c =
+    let start = c .before .before .before .before .before .before .before .before in
+    omega (arith, keeps-parts (start .args .t3) (start .pre .0) .0)
 
 loop-less : tie.Need-loop-less Inv-loop μ-loop
-loop-less c = omega (arith, keeps-parts (c .before .before .before .before .before .before .before .before .args .t3) (c .before .before .before .before .before .before .before .before .pre .0) .0)
+loop-less c =
+    let start = c .before .before .before .before .before .before .before .before in
+    omega (arith, keeps-parts (start .args .t3) (start .pre .0) .0)
 
 loop-again : tie.Need-loop-again Inv-loop μ-loop
 loop-again c =
-    let l = c .before .before .before .before .before .before .loop in
-    let k = count-is (c .before .before .before .before .before .before .before .before .args .t3) (twelve (c .before .before .before .before .before .before .before .before .args .t3) _ (c .before .before .before .before .before .before .before .before .good .1 .1 .0)) (c .before .before .before .before .before .before .before .before .pre .0) in
-    let room : Room (c .before .before .before .before .before .before .before .before .args .out .now) (c .before .before .before .before .before .before .before .before .args .at) (textOfAll analogText (take (l .i) (members (c .before .before .before .before .before .before .before .before .args .t3)))) = record { fits = omega (arith, c .before .before .before .before .before .before .before .before .pre .1 .fits, first-short analogText (members (c .before .before .before .before .before .before .before .before .args .t3)) (l .i)) } in (
+    let start = c .before .before .before .before .before .before .before .before in
+    let t3 = start .args .t3 in
+    let loop = c .before .before .before .before .before .before .loop in
+    let l = loop in
+    let k = count-is t3 (twelve t3 _ (start .good .1 .1 .0)) (start .pre .0) in
+    let room : Room (start .args .out .now) (start .args .at) (textOfAll analogText (take (l .i) (members t3))) = record { fits = omega (arith, start .pre .1 .fits, first-short analogText (members t3) (l .i)) } in (
       omega arith,
       c .before .before .put-analog-on .kept .0 ∙ l .inv .1,
-      rw (← all-more analogText (c .before .before .before .before .before .before .before .before .args .t3) (l .i) (omega (arith, k))) (put-then room (l .inv .2) (c .before .before .put-analog-on .ensures)),
+      rw (← all-more analogText t3 (l .i) (omega (arith, k))) (put-then room (l .inv .2) (c .before .before .put-analog-on .ensures)),
     )
 
 same-length : tie.Need-same-length Inv-loop μ-loop
-same-length c = omega (arith, keeps-parts (c .before .before .before .args .t3) (c .before .before .before .pre .0) .0)
+same-length c =
+    let start = c .before .before .before in
+    omega (arith, keeps-parts (start .args .t3) (start .pre .0) .0)
 
 returns : tie.Need-returns Inv-loop μ-loop
 returns c =
+    let start = c .before .before .before in
+    let t3 = start .args .t3 in
     let l = c .before .loop in
-    let all : l .i ≡ length (members (c .before .before .before .args .t3)) = omega (arith, count-is (c .before .before .before .args .t3) (twelve (c .before .before .before .args .t3) _ (c .before .before .before .good .1 .1 .0)) (c .before .before .before .pre .0)) in
-    let whole : take (l .i) (members (c .before .before .before .args .t3)) ≡ members (c .before .before .before .args .t3) = ap (λ (k : ℕ). take k (members (c .before .before .before .args .t3))) all ∙ take-length (members (c .before .before .before .args .t3)) in
+    let all : l .i ≡ length (members t3) = omega (arith, count-is t3 (twelve t3 _ (start .good .1 .1 .0)) (start .pre .0)) in
+    let whole : take (l .i) (members t3) ≡ members t3 = ap (λ (k : ℕ). take k (members t3)) all ∙ take-length (members t3) in
     rw whole at (l .inv .2)
 
 pub put-analogs-spec : {M : Type 1} → statement M

@@ -21,9 +21,12 @@ same-length-2 c = search needs
 
 returns : tie.Need-returns
 returns c =
-    let start = c .before .before .before .before .before .before .before .before .before .before .before .before .args in
-    let inner = c .before .before .before .before .before .before .before .before .listing-of in
-    let listed = c .before .before .before .before .before .list in
+    let start = c .before .before .before .before .before .before .before .before .before .before .before .before in
+    let listing-of = c .before .before .before .before .before .before .before .before .listing-of in
+    let list = c .before .before .before .before .before .list in
+    let start = start .args in
+    let inner = listing-of in
+    let listed = list in
     flat-lists (start .listing) (inner .result) (start .store .now) (start .piece .now) (start .out .now) (listed .result) (listed .last .1 .0) (listed .last .1 .1 .1 .0) (c .listed .result) (inner .ensures) (listed .ensures) (c .listed .ensures)
 
 pub hanuzak-list-spec : {M : Type 1} → statement M

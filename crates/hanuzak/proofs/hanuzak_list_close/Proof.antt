@@ -21,8 +21,10 @@ same-length c = search needs
 
 returns : tie.Need-returns
 returns c =
-    let out = c .before .before .before .before .before .before .before .args .out .now in
-    let inner = c .before .before .before .before .before .listing-of in
+    let start = c .before .before .before .before .before .before .before in
+    let listing-of = c .before .before .before .before .before .listing-of in
+    let out = start .args .out .now in
+    let inner = listing-of in
     let closed = c .before .before .before .close in
     flat-writes _ (closed .result) (closed .last .1 .0) (c .written .result) (closed .ensures ∙ ap (λ (l : Listing). closing l out) (inner .ensures)) (c .written .ensures)
 

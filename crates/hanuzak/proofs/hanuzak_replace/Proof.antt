@@ -29,7 +29,7 @@ use denote.Memory.{mem as bytes}
 use denote.Ref.{RefT}
 use denote.Slice.{sliceVal, MutSlice, Room, slice-vals, mut-slice-tells, finally}
 use denote.Index.{place-is, elem-out, elem-put, opens-slice, closes-slice}
-use denote.Signature.{plain, mutSliceOf}
+use denote.Signature.{plain}
 use denote.Steps.{owned, nothing}
 use denote.Struct.Laws as LL
 use denote.Triple.Entry.{onEntry}

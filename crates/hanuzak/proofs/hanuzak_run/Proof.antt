@@ -20,7 +20,11 @@ same-length : tie.Need-same-length
 same-length c = search needs
 
 returns : tie.Need-returns
-returns c = flat-runs (c .before .before .before .before .before .before .before .before .before .args .receiver) (c .before .before .before .before .before .before .receiver-of .result) (c .before .before .before .before .before .before .receiver-of .ensures) (c .before .before .before .before .before .before .before .before .before .args .store .now) (c .before .before .before .before .run .last .1 .0) (c .before .receiver .result) (c .event .result) (c .before .before .before .before .before .before .before .before .before .args .piece .now) (c .before .before .before .before .run .result) (c .before .before .before .before .run .ensures) (c .before .receiver .ensures) (c .event .ensures)
+returns c =
+    let start = c .before .before .before .before .before .before .before .before .before in
+    let receiver-of = c .before .before .before .before .before .before .receiver-of in
+    let run = c .before .before .before .before .run in
+    flat-runs (start .args .receiver) (receiver-of .result) (receiver-of .ensures) (start .args .store .now) (run .last .1 .0) (c .before .receiver .result) (c .event .result) (start .args .piece .now) (run .result) (run .ensures) (c .before .receiver .ensures) (c .event .ensures)
 
 pub hanuzak-run-spec : {M : Type 1} → statement M
 hanuzak-run-spec =

@@ -20,7 +20,11 @@ same-length : tie.Need-same-length
 same-length c = search needs
 
 returns : tie.Need-returns
-returns c = flat-steps (c .before .before .before .before .before .before .before .before .args .receiver) (c .before .before .before .before .before .before .receiver-of .result) (c .before .before .before .before .before .before .receiver-of .ensures) (c .before .before .before .before .before .before .before .before .args .store .now) (c .before .before .before .before .step .last .1 .0) (c .before .receiver .result) (c .event .result) (c .before .before .before .before .before .before .before .before .args .byte) (c .before .before .before .before .step .result) (c .before .before .before .before .step .ensures) (c .before .receiver .ensures) (c .event .ensures)
+returns c =
+    let start = c .before .before .before .before .before .before .before .before in
+    let receiver-of = c .before .before .before .before .before .before .receiver-of in
+    let step = c .before .before .before .before .step in
+    flat-steps (start .args .receiver) (receiver-of .result) (receiver-of .ensures) (start .args .store .now) (step .last .1 .0) (c .before .receiver .result) (c .event .result) (start .args .byte) (step .result) (step .ensures) (c .before .receiver .ensures) (c .event .ensures)
 
 pub hanuzak-step-spec : {M : Type 1} → statement M
 hanuzak-step-spec =

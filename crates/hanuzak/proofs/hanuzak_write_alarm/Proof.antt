@@ -14,7 +14,9 @@ same-length : tie.Need-same-length
 same-length c = search needs
 
 returns : tie.Need-returns
-returns c = flat-writes _ (c .before .before .before .write-alarm .result) (c .before .before .before .write-alarm .last .0) (c .written .result) (c .before .before .before .write-alarm .ensures) (c .written .ensures)
+returns c =
+    let write-alarm = c .before .before .before .write-alarm in
+    flat-writes _ (write-alarm .result) (write-alarm .last .0) (c .written .result) (write-alarm .ensures) (c .written .ensures)
 
 pub hanuzak-write-alarm-spec : {M : Type 1} → statement M
 hanuzak-write-alarm-spec =

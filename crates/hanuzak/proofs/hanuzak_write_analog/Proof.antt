@@ -14,7 +14,9 @@ same-length : tie.Need-same-length
 same-length c = search needs
 
 returns : tie.Need-returns
-returns c = flat-writes _ (c .before .before .before .write-analog .result) (c .before .before .before .write-analog .last .0) (c .written .result) (c .before .before .before .write-analog .ensures) (c .written .ensures)
+returns c =
+    let write-analog = c .before .before .before .write-analog in
+    flat-writes _ (write-analog .result) (write-analog .last .0) (c .written .result) (write-analog .ensures) (c .written .ensures)
 
 pub hanuzak-write-analog-spec : {M : Type 1} → statement M
 hanuzak-write-analog-spec =

@@ -14,7 +14,9 @@ same-length : tie.Need-same-length
 same-length c = search needs
 
 returns : tie.Need-returns
-returns c = flat-writes _ (c .before .before .before .write .result) (c .before .before .before .write .last .1 .1 .0) (c .written .result) (c .before .before .before .write .ensures) (c .written .ensures)
+returns c =
+    let write = c .before .before .before .write in
+    flat-writes _ (write .result) (write .last .1 .1 .0) (c .written .result) (write .ensures) (c .written .ensures)
 
 pub hanuzak-write-frame-spec : {M : Type 1} → statement M
 hanuzak-write-frame-spec =

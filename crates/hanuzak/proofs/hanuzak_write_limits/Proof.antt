@@ -14,7 +14,9 @@ same-length : tie.Need-same-length
 same-length c = search needs
 
 returns : tie.Need-returns
-returns c = flat-writes _ (c .before .before .before .write-limits .result) (c .before .before .before .write-limits .last .0) (c .written .result) (c .before .before .before .write-limits .ensures) (c .written .ensures)
+returns c =
+    let write-limits = c .before .before .before .write-limits in
+    flat-writes _ (write-limits .result) (write-limits .last .0) (c .written .result) (write-limits .ensures) (c .written .ensures)
 
 pub hanuzak-write-limits-spec : {M : Type 1} → statement M
 hanuzak-write-limits-spec =

@@ -14,7 +14,9 @@ same-length : tie.Need-same-length
 same-length c = search needs
 
 returns : tie.Need-returns
-returns c = flat-writes _ (c .before .before .before .write-serial .result) (c .before .before .before .write-serial .last .0) (c .written .result) (c .before .before .before .write-serial .ensures) (c .written .ensures)
+returns c =
+    let write-serial = c .before .before .before .write-serial in
+    flat-writes _ (write-serial .result) (write-serial .last .0) (c .written .result) (write-serial .ensures) (c .written .ensures)
 
 pub hanuzak-write-serial-spec : {M : Type 1} → statement M
 hanuzak-write-serial-spec =

@@ -14,7 +14,9 @@ same-length : tie.Need-same-length
 same-length c = search needs
 
 returns : tie.Need-returns
-returns c = flat-writes _ (c .before .before .before .write-version .result) (c .before .before .before .write-version .last .0) (c .written .result) (c .before .before .before .write-version .ensures) (c .written .ensures)
+returns c =
+    let write-version = c .before .before .before .write-version in
+    flat-writes _ (write-version .result) (write-version .last .0) (c .written .result) (write-version .ensures) (c .written .ensures)
 
 pub hanuzak-write-version-spec : {M : Type 1} → statement M
 hanuzak-write-version-spec =

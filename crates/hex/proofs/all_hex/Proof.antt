@@ -39,7 +39,8 @@ all-hex-in-requires-2 c κs = tt
 
 loop-holds : tie.Need-loop-holds Inv-loop μ-loop
 loop-holds c =
-    let s = c .before .before .before .before .args .s .now in
+    let start = c .before .before .before .before in
+    let s = start .args .s .now in
     let last : ℕ = length s - 64 in
     let long : length (drop last s) ≤ length s - last = omega (arith, length-drop last s) in
     let tail : c .all-hex-in2 .result ≡ allHex (drop last s) = c .all-hex-in2 .ensures ∙ ap allHex (take-all (length s - last) (drop last s) long) in
@@ -71,8 +72,9 @@ loop-less c = omega arith
 
 loop-again : tie.Need-loop-again Inv-loop μ-loop
 loop-again c =
+    let start = c .before .before .before .before .before .before .before .before in
     let l = c .before .before .before .loop in
-    let s = c .before .before .before .before .before .before .before .before .args .s .now in
+    let s = start .args .s .now in
     let last : ℕ = length s - 64 in
     let wide : l .i + 64 - l .i ≡ 64 = omega arith in
     let here : c .all-hex-in3 .result ≡ allHex (take 64 (drop (l .i) s)) = c .all-hex-in3 .ensures ∙ ap (λ (k : ℕ). allHex (take k (drop (l .i) s))) wide in
@@ -80,8 +82,9 @@ loop-again c =
 
 returns-2 : tie.Need-returns-2 Inv-loop μ-loop
 returns-2 c =
+    let start = c .before .before .before .before .before .before in
     let l = c .before .loop in
-    let s = c .before .before .before .before .before .before .args .s .now in
+    let s = start .args .s .now in
     blocks-end s (length s - 64) (l .i) (l .good) (omega arith) (l .inv .2) (l .inv .3)
 
 pub all-hex-spec : {M : Type 1} → statement M

@@ -31,7 +31,10 @@ loop-less : tie.Need-loop-less Inv-loop μ-loop
 loop-less c = omega arith
 
 loop-again : tie.Need-loop-again Inv-loop μ-loop
-loop-again c = (omega arith, all-turn (c .before .before .before .before .before .args .s .now) (c .before .before .before .loop .i) (c .before .before .before .loop .good) (c .is-hex .result) (omega arith) (c .is-hex .ensures) ∙ c .before .before .before .loop .inv .1)
+loop-again c =
+    let start = c .before .before .before .before .before in
+    let loop = c .before .before .before .loop in
+    (omega arith, all-turn (start .args .s .now) (loop .i) (loop .good) (c .is-hex .result) (omega arith) (c .is-hex .ensures) ∙ loop .inv .1)
 
 returns : tie.Need-returns Inv-loop μ-loop
 returns c = all-end (c .before .before .before .args .s .now) (c .before .loop .i) (c .before .loop .good) (omega arith) ∙ c .before .loop .inv .1

@@ -16,7 +16,9 @@ digit-requires-2 : tie.Need-digit-requires-2
 digit-requires-2 c κs = search needs
 
 add-result : tie.Need-add-result
-add-result c = search (needs, c .before .digit .ensures, c .digit2 .ensures, digit-small (c .before .before .args .high), digit-small (c .before .before .args .low))
+add-result c =
+    let start = c .before .before in
+    search (needs, c .before .digit .ensures, c .digit2 .ensures, digit-small (start .args .high), digit-small (start .args .low))
 
 returns : tie.Need-returns
 unfolding byteOf

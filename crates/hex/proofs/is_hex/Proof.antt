@@ -23,9 +23,10 @@ lesser-requires c κs = search needs
 
 returns : tie.Need-returns
 returns c =
+    let start = c .before .before .before .before .before in
     let digit = c .before .before .before .before .wrapping-sub-u8 in
     let letter = c .before .before .wrapping-sub-u82 in
-    far-hex (c .before .before .before .before .before .args .c) (digit .result) (letter .result) (c .lesser .result) (search needs) (search needs) (search needs) (digit .ensures) (letter .ensures)
+    far-hex (start .args .c) (digit .result) (letter .result) (c .lesser .result) (search needs) (search needs) (search needs) (digit .ensures) (letter .ensures)
     (c .lesser .ensures ∙ ap₂ (λ (u v : ℕ). min u v) (c .before .before .before .above .ensures) (c .before .above2 .ensures))
 
 pub is-hex-spec : {M : Type 1} → statement M

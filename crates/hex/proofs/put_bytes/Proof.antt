@@ -19,16 +19,19 @@ abbrev μ-loop : tie.MeasureT-loop
 μ-loop out₀ at bytes next₀ i₀ out next i = length bytes - i
 
 loop-holds : tie.Need-loop-holds Inv-loop μ-loop
-loop-holds c = (refl, omega arith, rw (← hexes-none (c .before .before .args .bytes .now)) (put-none (c .before .before .args .out .now) (c .before .before .args .at)))
+loop-holds c =
+    let start = c .before .before in
+    (refl, omega arith, rw (← hexes-none (start .args .bytes .now)) (put-none (start .args .out .now) (start .args .at)))
 
 shared-slice-read-put-byte : tie.Need-shared-slice-read-put-byte Inv-loop μ-loop
 shared-slice-read-put-byte c = omega arith
 
 put-byte-requires : tie.Need-put-byte-requires Inv-loop μ-loop
 put-byte-requires c κs =
+    let start = c .before .before .before .before .before .before in
     let l = c .before .before .before .loop in
-    let bytes = c .before .before .before .before .before .before .args .bytes .now in
-    record { fits = omega (arith, c .before .before .before .before .before .before .pre .fits, l .inv .2 .end, length-hexes bytes, length-hexes (take (l .i) bytes), length-take-le (l .i) bytes (l .inv .1), length-pair (getD bytes (l .i) 0)) }
+    let bytes = start .args .bytes .now in
+    record { fits = omega (arith, start .pre .fits, l .inv .2 .end, length-hexes bytes, length-hexes (take (l .i) bytes), length-take-le (l .i) bytes (l .inv .1), length-pair (getD bytes (l .i) 0)) }
 
 add-i : tie.Need-add-i Inv-loop μ-loop
 add-i c = omega arith
@@ -38,9 +41,11 @@ loop-less c = omega arith
 
 loop-again : tie.Need-loop-again Inv-loop μ-loop
 loop-again c =
-    let l = c .before .before .before .before .before .before .loop in
-    let bytes = c .before .before .before .before .before .before .before .before .before .args .bytes .now in
-    let room : Room (c .before .before .before .before .before .before .before .before .before .args .out .now) (c .before .before .before .before .before .before .before .before .before .args .at) (hexes (take (l .i) bytes)) = record { fits = omega (arith, c .before .before .before .before .before .before .before .before .before .pre .fits, length-hexes bytes, length-hexes (take (l .i) bytes), length-take-le (l .i) bytes (l .inv .1)) } in (
+    let start = c .before .before .before .before .before .before .before .before .before in
+    let loop = c .before .before .before .before .before .before .loop in
+    let l = loop in
+    let bytes = start .args .bytes .now in
+    let room : Room (start .args .out .now) (start .args .at) (hexes (take (l .i) bytes)) = record { fits = omega (arith, start .pre .fits, length-hexes bytes, length-hexes (take (l .i) bytes), length-take-le (l .i) bytes (l .inv .1)) } in (
       c .before .before .put-byte .kept .0 ∙ l .inv .0,
       omega arith,
       rw (← hexes-more bytes (l .i) (omega arith)) (put-then room (l .inv .2) (c .before .before .put-byte .ensures)),
@@ -51,8 +56,9 @@ same-length c = omega arith
 
 returns : tie.Need-returns Inv-loop μ-loop
 returns c =
+    let start = c .before .before .before .before in
     let l = c .before .loop in
-    let bytes = c .before .before .before .before .args .bytes .now in
+    let bytes = start .args .bytes .now in
     let all : l .i ≡ length bytes = omega arith in
     let whole : take (l .i) bytes ≡ bytes = ap (λ (k : ℕ). take k bytes) all ∙ take-length bytes in
     rw whole at (l .inv .2)

@@ -22,18 +22,32 @@ enum-told c = search needs
 
 returns : tie.Need-returns
 returns c =
-    let e1 = field-ended byte (unhexes (c .before .before .before .before .args .info .now)) (c .before .before .before .before .args .at) (c .before .before .field .result) (c .before .before .field .ensures) (c .enum-told .given .1) in
-    stops (command (c .before .before .before .before .args .asked)) (c .before .before .before .before .args .asked) (unhexes (c .before .before .before .before .args .info .now)) (c .before .before .before .before .args .at) (rw e1)
+    let start = c .before .before .before .before in
+    let info = start .args .info .now in
+    let place = start .args .at in
+    let asked = start .args .asked in
+    let e1 = field-ended byte (unhexes info) place (c .before .before .field .result) (c .before .before .field .ensures) (c .enum-told .given .1) in
+    stops (command asked) asked (unhexes info) place (rw e1)
 
 returns-2 : tie.Need-returns-2
 returns-2 c =
-    let w1 = field-went byte (unhexes (c .before .before .before .before .before .before .args .info .now)) (c .before .before .before .before .before .before .args .at) (c .before .before .before .before .field .result) (c .before .before .before .before .field .ensures) (bytes-unhexes (c .before .before .before .before .before .before .args .info .now)) (c .before .before .given .given .1) in
-    stops (command (c .before .before .before .before .before .before .args .asked)) (c .before .before .before .before .before .before .args .asked) (unhexes (c .before .before .before .before .before .before .args .info .now)) (c .before .before .before .before .before .before .args .at) (command-differs (c .before .before .before .before .before .before .args .asked) (drop (c .before .before .before .before .before .before .args .at) (unhexes (c .before .before .before .before .before .before .args .info .now))) (w1 .get) (c .if1 .taken))
+    let start = c .before .before .before .before .before .before in
+    let info = start .args .info .now in
+    let place = start .args .at in
+    let asked = start .args .asked in
+    let field = c .before .before .before .before .field in
+    let w1 = field-went byte (unhexes info) place (field .result) (field .ensures) (bytes-unhexes info) (c .before .before .given .given .1) in
+    stops (command asked) asked (unhexes info) place (command-differs asked (drop place (unhexes info)) (w1 .get) (c .if1 .taken))
 
 returns-3 : tie.Need-returns-3
 returns-3 c =
-    let w1 = field-went byte (unhexes (c .before .before .before .before .before .before .args .info .now)) (c .before .before .before .before .before .before .args .at) (c .before .before .before .before .field .result) (c .before .before .before .before .field .ensures) (bytes-unhexes (c .before .before .before .before .before .before .args .info .now)) (c .before .before .given .given .1) in
-    found (command (c .before .before .before .before .before .before .args .asked)) (c .before .before .before .before .before .before .args .asked) (unhexes (c .before .before .before .before .before .before .args .info .now)) (c .before .before .before .before .before .before .args .at) (command-is (c .before .before .before .before .before .before .args .asked) (drop (c .before .before .before .before .before .before .args .at) (unhexes (c .before .before .before .before .before .before .args .info .now))) (w1 .get) (c .if1 .left)) (w1 .place)
+    let start = c .before .before .before .before .before .before in
+    let info = start .args .info .now in
+    let place = start .args .at in
+    let asked = start .args .asked in
+    let field = c .before .before .before .before .field in
+    let w1 = field-went byte (unhexes info) place (field .result) (field .ensures) (bytes-unhexes info) (c .before .before .given .given .1) in
+    found (command asked) asked (unhexes info) place (command-is asked (drop place (unhexes info)) (w1 .get) (c .if1 .left)) (w1 .place)
 
 pub read-command-spec : {M : Type 1} → statement M
 read-command-spec =

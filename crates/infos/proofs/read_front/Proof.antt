@@ -28,9 +28,13 @@ no-front-requires c κs = search needs
 
 returns : tie.Need-returns
 returns c =
-    let e1 = field-ended byte (unhexes (c .before .before .before .before .before .args .info .now)) 0 (c .before .before .before .field .result) (c .before .before .before .field .ensures) (c .before .enum-told .given .1) in
-    ap (λ (x : FrontRead). paperRead (x .reading) (x .flag, (c .before .before .before .before .before .args .asked))) (c .no-front .ensures)
-    ∙ stops (byte then command (c .before .before .before .before .before .args .asked)) (0, (c .before .before .before .before .before .args .asked)) (unhexes (c .before .before .before .before .before .args .info .now)) 0 (rw e1)
+    let start = c .before .before .before .before .before in
+    let info = start .args .info .now in
+    let asked = start .args .asked in
+    let field = c .before .before .before .field in
+    let e1 = field-ended byte (unhexes info) 0 (field .result) (field .ensures) (c .before .enum-told .given .1) in
+    ap (λ (x : FrontRead). paperRead (x .reading) (x .flag, asked)) (c .no-front .ensures)
+    ∙ stops (byte then command asked) (0, asked) (unhexes info) 0 (rw e1)
 
 read-command-requires : tie.Need-read-command-requires
 read-command-requires c κs = search needs
@@ -46,21 +50,37 @@ enum-known-reading-2 c = search needs
 
 cast-t12 : tie.Need-cast-t12
 cast-t12 c =
-    let w1 = field-went byte (unhexes (c .before .before .before .before .before .before .before .before .before .args .info .now)) 0 (c .before .before .before .before .before .before .before .field .result) (c .before .before .before .before .before .before .before .field .ensures) (bytes-unhexes (c .before .before .before .before .before .before .before .before .before .args .info .now)) (c .before .before .before .before .before .flag .given .1) in
-    record { fits = ltb→lt (c .before .before .before .before .before .flag .given .0 .0) 256 (w1 .ok) }
+    let start = c .before .before .before .before .before .before .before .before .before in
+    let info = start .args .info .now in
+    let field = c .before .before .before .before .before .before .before .field in
+    let flag = c .before .before .before .before .before .flag in
+    let w1 = field-went byte (unhexes info) 0 (field .result) (field .ensures) (bytes-unhexes info) (flag .given .1) in
+    record { fits = ltb→lt (flag .given .0 .0) 256 (w1 .ok) }
 
 returns-2 : tie.Need-returns-2
 returns-2 c =
-    let w1 = field-went byte (unhexes (c .before .before .before .before .before .before .before .before .before .before .args .info .now)) 0 (c .before .before .before .before .before .before .before .before .field .result) (c .before .before .before .before .before .before .before .before .field .ensures) (bytes-unhexes (c .before .before .before .before .before .before .before .before .before .before .args .info .now)) (c .before .before .before .before .before .before .flag .given .1) in
-    let q = part-stopped (command (c .before .before .before .before .before .before .before .before .before .before .args .asked)) (c .before .before .before .before .before .before .before .before .before .before .args .asked) (unhexes (c .before .before .before .before .before .before .before .before .before .before .args .info .now)) (c .before .before .before .before .before .before .flag .given .0 .1 .0) (c .before .before .before .before .read-command .result) (c .before .before .before .before .before .before .before .before .before .before .args .asked) (c .before .before .before .before .read-command .ensures) (c .before .before .reading .given .1) in
-    ap (λ (x : FrontRead). paperRead (x .reading) (x .flag, (c .before .before .before .before .before .before .before .before .before .before .args .asked))) (c .no-front2 .ensures)
-    ∙ stops (byte then command (c .before .before .before .before .before .before .before .before .before .before .args .asked)) (0, (c .before .before .before .before .before .before .before .before .before .before .args .asked)) (unhexes (c .before .before .before .before .before .before .before .before .before .before .args .info .now)) 0 (rw (w1 .get, q))
+    let start = c .before .before .before .before .before .before .before .before .before .before in
+    let info = start .args .info .now in
+    let asked = start .args .asked in
+    let field = c .before .before .before .before .before .before .before .before .field in
+    let flag = c .before .before .before .before .before .before .flag in
+    let read-command = c .before .before .before .before .read-command in
+    let w1 = field-went byte (unhexes info) 0 (field .result) (field .ensures) (bytes-unhexes info) (flag .given .1) in
+    let q = part-stopped (command asked) asked (unhexes info) (flag .given .0 .1 .0) (read-command .result) asked (read-command .ensures) (c .before .before .reading .given .1) in
+    ap (λ (x : FrontRead). paperRead (x .reading) (x .flag, asked)) (c .no-front2 .ensures)
+    ∙ stops (byte then command asked) (0, asked) (unhexes info) 0 (rw (w1 .get, q))
 
 returns-3 : tie.Need-returns-3
 returns-3 c =
-    let w1 = field-went byte (unhexes (c .before .before .before .before .before .before .before .before .before .args .info .now)) 0 (c .before .before .before .before .before .before .before .field .result) (c .before .before .before .before .before .before .before .field .ensures) (bytes-unhexes (c .before .before .before .before .before .before .before .before .before .args .info .now)) (c .before .before .before .before .before .flag .given .1) in
-    let p = part-went (command (c .before .before .before .before .before .before .before .before .before .args .asked)) (c .before .before .before .before .before .before .before .before .before .args .asked) (unhexes (c .before .before .before .before .before .before .before .before .before .args .info .now)) (c .before .before .before .before .before .flag .given .0 .1 .0) (c .before .before .before .read-command .result) (c .before .before .before .before .before .before .before .before .before .args .asked) (c .before .before .before .read-command .ensures) (bytes-unhexes (c .before .before .before .before .before .before .before .before .before .args .info .now)) (c .before .reading2 .given .1) in
-    found (byte then command (c .before .before .before .before .before .before .before .before .before .args .asked)) (0, (c .before .before .before .before .before .before .before .before .before .args .asked)) (unhexes (c .before .before .before .before .before .before .before .before .before .args .info .now)) 0 (rw (w1 .get, p .get)) (p .place)
+    let start = c .before .before .before .before .before .before .before .before .before in
+    let info = start .args .info .now in
+    let asked = start .args .asked in
+    let field = c .before .before .before .before .before .before .before .field in
+    let flag = c .before .before .before .before .before .flag in
+    let read-command = c .before .before .before .read-command in
+    let w1 = field-went byte (unhexes info) 0 (field .result) (field .ensures) (bytes-unhexes info) (flag .given .1) in
+    let p = part-went (command asked) asked (unhexes info) (flag .given .0 .1 .0) (read-command .result) asked (read-command .ensures) (bytes-unhexes info) (c .before .reading2 .given .1) in
+    found (byte then command asked) (0, asked) (unhexes info) 0 (rw (w1 .get, p .get)) (p .place)
 
 pub read-front-spec : {M : Type 1} → statement M
 read-front-spec =

@@ -2,7 +2,6 @@
 use mathlib.Core.Path.{ap}
 use lib.ListN.{replicate}
 use borrow.Author.Needs.{needs}
-use Rattle.table.specs.Table.{blank}
 use Rattle.record.specs.declared.Module.{Module}
 use Rattle.lent.proofs.empty_table.Statement.{statement}
 use Rattle.lent.proofs.empty_table.Tie as tie

@@ -15,7 +15,10 @@ close-requires : tie.Need-close-requires
 close-requires c κs = search needs
 
 write-text-requires : tie.Need-write-text-requires
-write-text-requires c κs = closes-inside (c .before .before .before .before .before .before .before .before .args .l) (c .before .before .before .before .before .before .before .before .args .out .now) (c .before .before .before .close .result) (c .before .before .before .close .last .1 .0) (c .before .before .before .close .ensures)
+write-text-requires c κs =
+    let start = c .before .before .before .before .before .before .before .before in
+    let close = c .before .before .before .close in
+    closes-inside (start .args .l) (start .args .out .now) (close .result) (close .last .1 .0) (close .ensures)
 
 enum-told-3 : tie.Need-enum-told-3
 enum-told-3 c = search needs

@@ -9,7 +9,10 @@ list-requires : tie.Need-list-requires
 list-requires c κs = search needs
 
 write-text-requires : tie.Need-write-text-requires
-write-text-requires c κs = lists-inside (c .before .before .before .before .before .before .before .before .before .before .before .before .args .l) (c .before .before .before .before .before .before .before .before .before .before .before .before .args .store .now) (c .before .before .before .before .before .before .before .before .before .before .before .before .args .piece .now) (c .before .before .before .before .before .before .before .before .before .before .before .before .args .out .now) (c .before .before .before .before .before .before .list .result) (c .before .before .before .before .before .before .list .last .1 .0) (c .before .before .before .before .before .before .list .last .1 .1 .1 .0) (c .before .before .before .before .before .before .list .ensures)
+write-text-requires c κs =
+    let start = c .before .before .before .before .before .before .before .before .before .before .before .before in
+    let list = c .before .before .before .before .before .before .list in
+    lists-inside (start .args .l) (start .args .store .now) (start .args .piece .now) (start .args .out .now) (list .result) (list .last .1 .0) (list .last .1 .1 .1 .0) (list .ensures)
 
 same-length : tie.Need-same-length
 same-length c = search needs
@@ -18,7 +21,10 @@ same-length-2 : tie.Need-same-length-2
 same-length-2 c = search needs
 
 returns : tie.Need-returns
-returns c = lists-few (c .before .before .before .before .before .before .before .before .before .before .before .before .before .before .args .l) (c .before .before .before .before .before .before .before .before .before .before .before .before .before .before .args .store .now) (c .before .before .before .before .before .before .before .before .before .before .before .before .before .before .args .piece .now) (c .before .before .before .before .before .before .before .before .before .before .before .before .before .before .args .out .now) (c .before .before .before .before .before .before .before .before .list .result) (c .before .before .before .before .before .before .before .before .list .last .1 .0) (c .before .before .before .before .before .before .before .before .list .last .1 .1 .1 .0) (c .before .before .before .before .before .before .before .before .list .ensures)
+returns c =
+    let start = c .before .before .before .before .before .before .before .before .before .before .before .before .before .before in
+    let list = c .before .before .before .before .before .before .before .before .list in
+    lists-few (start .args .l) (start .args .store .now) (start .args .piece .now) (start .args .out .now) (list .result) (list .last .1 .0) (list .last .1 .1 .1 .0) (list .ensures)
 
 same-length-3 : tie.Need-same-length-3
 same-length-3 c = search needs

@@ -38,13 +38,28 @@ returns : tie.Need-returns Inv-loop μ-loop
 returns c = tt
 
 add-i : tie.Need-add-i Inv-loop μ-loop
-add-i c = omega (arith, c .before .before .before .before .before .before .list-part .ensures, length-take-le (length (c .before .before .before .before .before .before .before .before .before .before .before .before .before .before .before .args .piece .now) - c .before .before .before .before .before .before .before .before .before .before .before .loop .i) (drop (c .before .before .before .before .before .before .before .before .before .before .before .loop .i) (c .before .before .before .before .before .before .before .before .before .before .before .before .before .before .before .args .piece .now)) (omega (arith, length-drop (c .before .before .before .before .before .before .before .before .before .before .before .loop .i) (c .before .before .before .before .before .before .before .before .before .before .before .before .before .before .before .args .piece .now))))
+add-i c =
+    let start = c .before .before .before .before .before .before .before .before .before .before .before .before .before .before .before in
+    let piece = start .args .piece .now in
+    let loop = c .before .before .before .before .before .before .before .before .before .before .before .loop in
+    let list-part = c .before .before .before .before .before .before .list-part in
+    omega (arith, list-part .ensures, length-take-le (length piece - loop .i) (drop (loop .i) piece) (omega (arith, length-drop (loop .i) piece)))
 
 loop-less : tie.Need-loop-less Inv-loop μ-loop
-loop-less c = omega (arith, c .before .before .before .before .before .before .list-part .ensures, length-take-le (length (c .before .before .before .before .before .before .before .before .before .before .before .before .before .before .before .args .piece .now) - c .before .before .before .before .before .before .before .before .before .before .before .loop .i) (drop (c .before .before .before .before .before .before .before .before .before .before .before .loop .i) (c .before .before .before .before .before .before .before .before .before .before .before .before .before .before .before .args .piece .now)) (omega (arith, length-drop (c .before .before .before .before .before .before .before .before .before .before .before .loop .i) (c .before .before .before .before .before .before .before .before .before .before .before .before .before .before .before .args .piece .now))), c .if1 .left)
+loop-less c =
+    let start = c .before .before .before .before .before .before .before .before .before .before .before .before .before .before .before in
+    let piece = start .args .piece .now in
+    let loop = c .before .before .before .before .before .before .before .before .before .before .before .loop in
+    let list-part = c .before .before .before .before .before .before .list-part in
+    omega (arith, list-part .ensures, length-take-le (length piece - loop .i) (drop (loop .i) piece) (omega (arith, length-drop (loop .i) piece)), c .if1 .left)
 
 loop-again : tie.Need-loop-again Inv-loop μ-loop
-loop-again c = (omega (arith, c .before .before .before .before .before .before .list-part .ensures, length-take-le (length (c .before .before .before .before .before .before .before .before .before .before .before .before .before .before .before .args .piece .now) - c .before .before .before .before .before .before .before .before .before .before .before .loop .i) (drop (c .before .before .before .before .before .before .before .before .before .before .before .loop .i) (c .before .before .before .before .before .before .before .before .before .before .before .before .before .before .before .args .piece .now)) (omega (arith, length-drop (c .before .before .before .before .before .before .before .before .before .before .before .loop .i) (c .before .before .before .before .before .before .before .before .before .before .before .before .before .before .before .args .piece .now)))), c .before .before .before .before .before .before .list-part .kept .1 .0 ∙ c .before .before .before .before .before .before .before .before .before .before .before .loop .inv .1, c .before .before .before .before .before .before .list-part .kept .1 .1 .1 .0 ∙ c .before .before .before .before .before .before .before .before .before .before .before .loop .inv .2)
+loop-again c =
+    let start = c .before .before .before .before .before .before .before .before .before .before .before .before .before .before .before in
+    let piece = start .args .piece .now in
+    let loop = c .before .before .before .before .before .before .before .before .before .before .before .loop in
+    let list-part = c .before .before .before .before .before .before .list-part in
+    (omega (arith, list-part .ensures, length-take-le (length piece - loop .i) (drop (loop .i) piece) (omega (arith, length-drop (loop .i) piece))), list-part .kept .1 .0 ∙ loop .inv .1, list-part .kept .1 .1 .1 .0 ∙ loop .inv .2)
 
 same-length-3 : tie.Need-same-length-3 Inv-loop μ-loop
 same-length-3 c = omega arith

@@ -39,10 +39,18 @@ returns-2 : tie.Need-returns-2
 returns-2 c = search needs
 
 slice-reshare-prefix-list-piece : tie.Need-slice-reshare-prefix-list-piece
-slice-reshare-prefix-list-piece c = omega (arith, c .before .before .before .before .before .read-some .ensures, length-append (c .before .before .before .before .before .read-some .last .0) (drop (c .before .before .before .before .before .before .before .least .result) (c .before .before .before .before .before .before .before .before .before .before .before .before .args .buffer .now)))
+slice-reshare-prefix-list-piece c =
+    let start = c .before .before .before .before .before .before .before .before .before .before .before .before in
+    let least = c .before .before .before .before .before .before .before .least in
+    let read-some = c .before .before .before .before .before .read-some in
+    omega (arith, read-some .ensures, length-append (read-some .last .0) (drop (least .result) (start .args .buffer .now)))
 
 slice-aggregate-list-piece : tie.Need-slice-aggregate-list-piece
-slice-aggregate-list-piece c = sym (length-take-le _ _ (omega (arith, c .before .before .before .before .before .before .read-some .ensures, length-append (c .before .before .before .before .before .before .read-some .last .0) (drop (c .before .before .before .before .before .before .before .before .least .result) (c .before .before .before .before .before .before .before .before .before .before .before .before .before .args .buffer .now)))))
+slice-aggregate-list-piece c =
+    let start = c .before .before .before .before .before .before .before .before .before .before .before .before .before in
+    let least = c .before .before .before .before .before .before .before .before .least in
+    let read-some = c .before .before .before .before .before .before .read-some in
+    sym (length-take-le _ _ (omega (arith, read-some .ensures, length-append (read-some .last .0) (drop (least .result) (start .args .buffer .now)))))
 
 list-piece-requires : tie.Need-list-piece-requires
 list-piece-requires c κs = search needs

@@ -10,7 +10,9 @@ enum-known-written : tie.Need-enum-known-written
 enum-known-written c = search needs
 
 write-front-requires : tie.Need-write-front-requires
-write-front-requires c κs = c .before .before .before .before .pre (c .before .written .given .0 .0) (ap paper (c .before .written .given .1))
+write-front-requires c κs =
+    let start = c .before .before .before .before in
+    start .pre (c .before .written .given .0 .0) (ap paper (c .before .written .given .1))
 
 enum-told : tie.Need-enum-told
 enum-told c = search needs

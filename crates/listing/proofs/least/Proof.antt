@@ -1,7 +1,6 @@
 -- The two cases of the test.
 use Prim.Native.Nat.{_-_}
 use borrow.Author.Tests.{lt-ltb, le-ltb}
-use Rattle.listing.specs.Piece.{left}
 use Rattle.listing.proofs.least.Statement.{statement}
 use Rattle.listing.proofs.least.Tie as tie
 

@@ -43,7 +43,8 @@ put-refusal-requires c κs =
 returns : tie.Need-returns
 unfolding lines
 returns c =
-    let a = c .before .before .before .before .args in
+    let start = c .before .before .before .before in
+    let a = start .args in
     subst (λ (e : Event). Put (a .out .now) (a .at) (lines (blockOf (a .soi) (paper e) (a .store .now))) (a .out .now) (a .at)) (sym (c .enum-told .given .1)) (put-none (a .out .now) (a .at))
 
 same-length : tie.Need-same-length
@@ -51,9 +52,10 @@ same-length c = search needs
 
 returns-2 : tie.Need-returns-2
 returns-2 c =
+    let the-event = c .before .before .before .before .before .event in
     let start = c .before .before .before .before .before .before .before .before .before in
     let a = start .args in
-    let event = c .before .before .before .before .before .event .given in
+    let event = the-event .given in
     let h : Stands (paper (Frame (event .0 .0) (event .0 .1 .0))) (a .store .now) = rw (event .1) at (start .pre .2) in
     rw (event .1, lines-one (frameBlock (a .soi) (event .0 .0) (infoAt (event .0 .1 .0) (a .store .now))))
     (subst (λ (x : List ℕ). Put (a .out .now) (a .at) x (c .before .before .put-stored .last .0) (c .before .before .put-stored .result)) (h .1 (a .soi)) (c .before .before .put-stored .ensures))
@@ -63,8 +65,10 @@ same-length-2 c = search needs
 
 returns-3 : tie.Need-returns-3
 returns-3 c =
-    let a = c .before .before .before .before .before .before .before .before .before .before .args in
-    rw (c .before .before .before .before .before .before .event2 .given .1, lines-one (refusalBlock (a .soi) (number (c .before .before .before .before .before .before .event2 .given .0 .0))), ← c .before .before .before .number .ensures) (c .before .before .put-refusal .ensures)
+    let start = c .before .before .before .before .before .before .before .before .before .before in
+    let event2 = c .before .before .before .before .before .before .event2 in
+    let a = start .args in
+    rw (event2 .given .1, lines-one (refusalBlock (a .soi) (number (event2 .given .0 .0))), ← c .before .before .before .number .ensures) (c .before .before .put-refusal .ensures)
 
 pub put-event-spec : {M : Type 1} → statement M
 put-event-spec =

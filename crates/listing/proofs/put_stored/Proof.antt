@@ -74,7 +74,8 @@ same-length c = search needs
 
 returns : tie.Need-returns
 returns c =
-    let a = c .before .before .before .before .before .before .before .before .before .before .before .args in
+    let start = c .before .before .before .before .before .before .before .before .before .before .before in
+    let a = start .args in
     let s = a .store .now in
     let e : 12 + a .lenid - 12 ≡ a .lenid = omega arith in
     subst (λ (m : ℕ). Put (a .out .now) (a .at) (sixLines (a .soi) (take 2 s) (take 2 (drop 2 s)) (take 2 (drop 4 s)) (take 2 (drop 6 s)) (take m (drop 12 s))) (c .before .before .put-frame .last .0) (c .before .before .put-frame .result)) e (c .before .before .put-frame .ensures)

@@ -49,33 +49,57 @@ no-limits-requires-3 c κs = search needs
 returns : tie.Need-returns
 unfolding limitsInfo
 returns c =
-    let p = part-went (command (c .before .before .before .before .before .before .before .before .before .before .before .before .args .adr)) (c .before .before .before .before .before .before .before .before .before .before .before .before .args .adr) (unhexes (c .before .before .before .before .before .before .before .before .before .before .before .before .args .info .now)) 0 (c .before .before .before .before .before .before .before .before .before .before .read-command .result) ((c .before .before .before .before .before .before .before .before .before .before .before .before .args .adr)) (c .before .before .before .before .before .before .before .before .before .before .read-command .ensures) (bytes-unhexes (c .before .before .before .before .before .before .before .before .before .before .before .before .args .info .now)) (c .before .before .before .before .before .before .before .before .reading12 .given .1) in
-    let q = part-went limits noLimits (unhexes (c .before .before .before .before .before .before .before .before .before .before .before .before .args .info .now)) (c .before .before .before .before .before .before .before .before .reading12 .given .0 .0) (c .before .before .before .before .before .before .read-limits .result .reading) (c .before .before .before .before .before .before .read-limits .result .limits) (c .before .before .before .before .before .before .read-limits .ensures) (bytes-unhexes (c .before .before .before .before .before .before .before .before .before .before .before .before .args .info .now)) (c .before .before .before .before .reading22 .given .1) in
+    let start = c .before .before .before .before .before .before .before .before .before .before .before .before in
+    let adr = start .args .adr in
+    let info = start .args .info .now in
+    let read-command = c .before .before .before .before .before .before .before .before .before .before .read-command in
+    let reading12 = c .before .before .before .before .before .before .before .before .reading12 in
+    let read-limits = c .before .before .before .before .before .before .read-limits in
+    let reading22 = c .before .before .before .before .reading22 in
+    let p = part-went (command adr) adr (unhexes info) 0 (read-command .result) (adr) (read-command .ensures) (bytes-unhexes info) (reading12 .given .1) in
+    let q = part-went limits noLimits (unhexes info) (reading12 .given .0 .0) (read-limits .result .reading) (read-limits .result .limits) (read-limits .ensures) (bytes-unhexes info) (reading22 .given .1) in
     ap (λ (x : LimitsTaken). paper (x .taken) (x .limits)) (c .no-limits3 .ensures)
-    ∙ left-over noLimits (λ (b : Limits). unflagged (((c .before .before .before .before .before .before .before .before .before .before .before .before .args .adr)), b)) limits (unhexes (c .before .before .before .before .before .before .before .before .before .before .before .before .args .info .now)) (c .before .before .before .before .before .before .before .before .reading12 .given .0 .0) (c .before .before .before .before .reading22 .given .0 .0) (q .get) (omega (arith, c .before .before .byte-count .ensures))
-    ∙ first-read noLimits unflagged (command (c .before .before .before .before .before .before .before .before .before .before .before .before .args .adr)) (λ x. ended limits) (unhexes (c .before .before .before .before .before .before .before .before .before .before .before .before .args .info .now)) (p .get)
+    ∙ left-over noLimits (λ (b : Limits). unflagged ((adr), b)) limits (unhexes info) (reading12 .given .0 .0) (reading22 .given .0 .0) (q .get) (omega (arith, c .before .before .byte-count .ensures))
+    ∙ first-read noLimits unflagged (command adr) (λ x. ended limits) (unhexes info) (p .get)
 
 returns-2 : tie.Need-returns-2
 unfolding limitsInfo
 returns-2 c =
+    let start = c .before .before .before .before .before .before in
+    let adr = start .args .adr in
+    let info = start .args .info .now in
+    let read-command = c .before .before .before .before .read-command in
     ap (λ (x : LimitsTaken). paper (x .taken) (x .limits)) (c .no-limits .ensures)
-    ∙ first-refused noLimits unflagged (command (c .before .before .before .before .before .before .args .adr)) (λ x. ended limits) (unhexes (c .before .before .before .before .before .before .args .info .now)) (part-stopped (command (c .before .before .before .before .before .before .args .adr)) (c .before .before .before .before .before .before .args .adr) (unhexes (c .before .before .before .before .before .before .args .info .now)) 0 (c .before .before .before .before .read-command .result) ((c .before .before .before .before .before .before .args .adr)) (c .before .before .before .before .read-command .ensures) (c .before .before .reading1 .given .1))
+    ∙ first-refused noLimits unflagged (command adr) (λ x. ended limits) (unhexes info) (part-stopped (command adr) adr (unhexes info) 0 (read-command .result) (adr) (read-command .ensures) (c .before .before .reading1 .given .1))
 
 returns-3 : tie.Need-returns-3
 unfolding limitsInfo
 returns-3 c =
-    let p = part-went (command (c .before .before .before .before .before .before .before .before .before .before .args .adr)) (c .before .before .before .before .before .before .before .before .before .before .args .adr) (unhexes (c .before .before .before .before .before .before .before .before .before .before .args .info .now)) 0 (c .before .before .before .before .before .before .before .before .read-command .result) ((c .before .before .before .before .before .before .before .before .before .before .args .adr)) (c .before .before .before .before .before .before .before .before .read-command .ensures) (bytes-unhexes (c .before .before .before .before .before .before .before .before .before .before .args .info .now)) (c .before .before .before .before .before .before .reading12 .given .1) in
+    let start = c .before .before .before .before .before .before .before .before .before .before in
+    let adr = start .args .adr in
+    let info = start .args .info .now in
+    let read-command = c .before .before .before .before .before .before .before .before .read-command in
+    let reading12 = c .before .before .before .before .before .before .reading12 in
+    let read-limits = c .before .before .before .before .read-limits in
+    let p = part-went (command adr) adr (unhexes info) 0 (read-command .result) (adr) (read-command .ensures) (bytes-unhexes info) (reading12 .given .1) in
     ap (λ (x : LimitsTaken). paper (x .taken) (x .limits)) (c .no-limits2 .ensures)
-    ∙ record-refused noLimits (λ (b : Limits). unflagged (((c .before .before .before .before .before .before .before .before .before .before .args .adr)), b)) limits (unhexes (c .before .before .before .before .before .before .before .before .before .before .args .info .now)) (c .before .before .before .before .before .before .reading12 .given .0 .0) (part-stopped limits noLimits (unhexes (c .before .before .before .before .before .before .before .before .before .before .args .info .now)) (c .before .before .before .before .before .before .reading12 .given .0 .0) (c .before .before .before .before .read-limits .result .reading) (c .before .before .before .before .read-limits .result .limits) (c .before .before .before .before .read-limits .ensures) (c .before .before .reading2 .given .1))
-    ∙ first-read noLimits unflagged (command (c .before .before .before .before .before .before .before .before .before .before .args .adr)) (λ x. ended limits) (unhexes (c .before .before .before .before .before .before .before .before .before .before .args .info .now)) (p .get)
+    ∙ record-refused noLimits (λ (b : Limits). unflagged ((adr), b)) limits (unhexes info) (reading12 .given .0 .0) (part-stopped limits noLimits (unhexes info) (reading12 .given .0 .0) (read-limits .result .reading) (read-limits .result .limits) (read-limits .ensures) (c .before .before .reading2 .given .1))
+    ∙ first-read noLimits unflagged (command adr) (λ x. ended limits) (unhexes info) (p .get)
 
 returns-4 : tie.Need-returns-4
 unfolding limitsInfo
 returns-4 c =
-    let p = part-went (command (c .before .before .before .before .before .before .before .before .before .before .before .before .args .adr)) (c .before .before .before .before .before .before .before .before .before .before .before .before .args .adr) (unhexes (c .before .before .before .before .before .before .before .before .before .before .before .before .args .info .now)) 0 (c .before .before .before .before .before .before .before .before .before .before .read-command .result) ((c .before .before .before .before .before .before .before .before .before .before .before .before .args .adr)) (c .before .before .before .before .before .before .before .before .before .before .read-command .ensures) (bytes-unhexes (c .before .before .before .before .before .before .before .before .before .before .before .before .args .info .now)) (c .before .before .before .before .before .before .before .before .reading12 .given .1) in
-    let q = part-went limits noLimits (unhexes (c .before .before .before .before .before .before .before .before .before .before .before .before .args .info .now)) (c .before .before .before .before .before .before .before .before .reading12 .given .0 .0) (c .before .before .before .before .before .before .read-limits .result .reading) (c .before .before .before .before .before .before .read-limits .result .limits) (c .before .before .before .before .before .before .read-limits .ensures) (bytes-unhexes (c .before .before .before .before .before .before .before .before .before .before .before .before .args .info .now)) (c .before .before .before .before .reading22 .given .1) in
-    all-found noLimits (λ (b : Limits). unflagged (((c .before .before .before .before .before .before .before .before .before .before .before .before .args .adr)), b)) limits (unhexes (c .before .before .before .before .before .before .before .before .before .before .before .before .args .info .now)) (c .before .before .before .before .before .before .before .before .reading12 .given .0 .0) (c .before .before .before .before .reading22 .given .0 .0) (q .get) (omega (arith, c .before .before .byte-count .ensures))
-    ∙ first-read noLimits unflagged (command (c .before .before .before .before .before .before .before .before .before .before .before .before .args .adr)) (λ x. ended limits) (unhexes (c .before .before .before .before .before .before .before .before .before .before .before .before .args .info .now)) (p .get)
+    let start = c .before .before .before .before .before .before .before .before .before .before .before .before in
+    let adr = start .args .adr in
+    let info = start .args .info .now in
+    let read-command = c .before .before .before .before .before .before .before .before .before .before .read-command in
+    let reading12 = c .before .before .before .before .before .before .before .before .reading12 in
+    let read-limits = c .before .before .before .before .before .before .read-limits in
+    let reading22 = c .before .before .before .before .reading22 in
+    let p = part-went (command adr) adr (unhexes info) 0 (read-command .result) (adr) (read-command .ensures) (bytes-unhexes info) (reading12 .given .1) in
+    let q = part-went limits noLimits (unhexes info) (reading12 .given .0 .0) (read-limits .result .reading) (read-limits .result .limits) (read-limits .ensures) (bytes-unhexes info) (reading22 .given .1) in
+    all-found noLimits (λ (b : Limits). unflagged ((adr), b)) limits (unhexes info) (reading12 .given .0 .0) (reading22 .given .0 .0) (q .get) (omega (arith, c .before .before .byte-count .ensures))
+    ∙ first-read noLimits unflagged (command adr) (λ x. ended limits) (unhexes info) (p .get)
 
 pub take-limits-spec : {M : Type 1} → statement M
 take-limits-spec =

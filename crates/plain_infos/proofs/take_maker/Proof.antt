@@ -43,17 +43,27 @@ no-maker-requires c κs = search needs
 returns : tie.Need-returns Inv-loop μ-loop
 unfolding maker
 returns c =
-    let e1 = field-ended byte (unhexes (c .before .before .before .before .before .before .before .args .info .now)) (c .before .before .before .before .before .loop .at) (c .before .before .before .field .result) (c .before .before .before .field .ensures) (c .before .enum-told .given .1) in
+    let start = c .before .before .before .before .before .before .before in
+    let info = start .args .info .now in
+    let loop = c .before .before .before .before .before .loop in
+    let field = c .before .before .before .field in
+    let e1 = field-ended byte (unhexes info) (loop .at) (field .result) (field .ensures) (c .before .enum-told .given .1) in
     ap (λ (x : MakerTaken). paper (x .taken) (x .maker)) (c .no-maker .ensures)
-    ∙ record-refused noMaker bare (row byte 32) (unhexes (c .before .before .before .before .before .before .before .args .info .now)) 0 (filled-stop byte (unhexes (c .before .before .before .before .before .before .before .args .info .now)) 0 32 (c .before .before .before .before .before .loop .inv) (omega arith) e1)
+    ∙ record-refused noMaker bare (row byte 32) (unhexes info) 0 (filled-stop byte (unhexes info) 0 32 (loop .inv) (omega arith) e1)
 
 cast-maker : tie.Need-cast-maker Inv-loop μ-loop
 cast-maker c =
-    let w1 = field-went byte (unhexes (c .before .before .before .before .before .before .before .args .info .now)) (c .before .before .before .before .before .loop .at) (c .before .before .before .field .result) (c .before .before .before .field .ensures) (bytes-unhexes (c .before .before .before .before .before .before .before .args .info .now)) (c .before .value .given .1) in
+    let start = c .before .before .before .before .before .before .before in
+    let info = start .args .info .now in
+    let loop = c .before .before .before .before .before .loop in
+    let field = c .before .before .before .field in
+    let w1 = field-went byte (unhexes info) (loop .at) (field .result) (field .ensures) (bytes-unhexes info) (c .before .value .given .1) in
     record { fits = ltb→lt (c .before .value .given .0 .0) 256 (w1 .ok) }
 
 array-write-maker : tie.Need-array-write-maker Inv-loop μ-loop
-array-write-maker c = omega (arith, c .before .before .before .before .before .loop .inv .long)
+array-write-maker c =
+    let loop = c .before .before .before .before .before .loop in
+    omega (arith, loop .inv .long)
 
 add-i : tie.Need-add-i Inv-loop μ-loop
 add-i c = search needs
@@ -63,8 +73,12 @@ loop-less c = search needs
 
 loop-again : tie.Need-loop-again Inv-loop μ-loop
 loop-again c =
-    let w1 = field-went byte (unhexes (c .before .before .before .before .before .before .before .args .info .now)) (c .before .before .before .before .before .loop .at) (c .before .before .before .field .result) (c .before .before .before .field .ensures) (bytes-unhexes (c .before .before .before .before .before .before .before .args .info .now)) (c .before .value .given .1) in
-    filled-more byte (unhexes (c .before .before .before .before .before .before .before .args .info .now)) 0 32 (c .before .before .before .before .before .loop .inv) (omega arith) (w1 .get) (w1 .place)
+    let start = c .before .before .before .before .before .before .before in
+    let info = start .args .info .now in
+    let loop = c .before .before .before .before .before .loop in
+    let field = c .before .before .before .field in
+    let w1 = field-went byte (unhexes info) (loop .at) (field .result) (field .ensures) (bytes-unhexes info) (c .before .value .given .1) in
+    filled-more byte (unhexes info) 0 32 (loop .inv) (omega arith) (w1 .get) (w1 .place)
 
 byte-count-requires : tie.Need-byte-count-requires Inv-loop μ-loop
 byte-count-requires c κs = search needs
@@ -75,15 +89,21 @@ no-maker-requires-2 c κs = search needs
 returns-2 : tie.Need-returns-2 Inv-loop μ-loop
 unfolding maker
 returns-2 c =
-    let f = filled-all byte (unhexes (c .before .before .before .before .before .before .args .info .now)) 0 32 (c .before .before .before .before .loop .inv) (omega arith) in
+    let start = c .before .before .before .before .before .before in
+    let info = start .args .info .now in
+    let loop = c .before .before .before .before .loop in
+    let f = filled-all byte (unhexes info) 0 32 (loop .inv) (omega arith) in
     ap (λ (x : MakerTaken). paper (x .taken) (x .maker)) (c .no-maker2 .ensures)
-    ∙ left-over noMaker bare (row byte 32) (unhexes (c .before .before .before .before .before .before .args .info .now)) 0 (c .before .before .before .before .loop .at) (f .0) (omega (arith, c .before .before .byte-count .ensures))
+    ∙ left-over noMaker bare (row byte 32) (unhexes info) 0 (loop .at) (f .0) (omega (arith, c .before .before .byte-count .ensures))
 
 returns-3 : tie.Need-returns-3 Inv-loop μ-loop
 unfolding maker
 returns-3 c =
-    let f = filled-all byte (unhexes (c .before .before .before .before .before .args .info .now)) 0 32 (c .before .before .before .loop .inv) (omega arith) in
-    all-found noMaker bare (row byte 32) (unhexes (c .before .before .before .before .before .args .info .now)) 0 (c .before .before .before .loop .at) (f .0) (omega (arith, c .before .byte-count .ensures))
+    let start = c .before .before .before .before .before in
+    let info = start .args .info .now in
+    let loop = c .before .before .before .loop in
+    let f = filled-all byte (unhexes info) 0 32 (loop .inv) (omega arith) in
+    all-found noMaker bare (row byte 32) (unhexes info) 0 (loop .at) (f .0) (omega (arith, c .before .byte-count .ensures))
 
 pub take-maker-spec : {M : Type 1} → statement M
 take-maker-spec =

@@ -50,33 +50,57 @@ no-serial-requires-3 c κs = search needs
 returns : tie.Need-returns
 unfolding serialInfo
 returns c =
-    let p = part-went (command (c .before .before .before .before .before .before .before .before .before .before .before .before .args .adr)) (c .before .before .before .before .before .before .before .before .before .before .before .before .args .adr) (unhexes (c .before .before .before .before .before .before .before .before .before .before .before .before .args .info .now)) 0 (c .before .before .before .before .before .before .before .before .before .before .read-command .result) ((c .before .before .before .before .before .before .before .before .before .before .before .before .args .adr)) (c .before .before .before .before .before .before .before .before .before .before .read-command .ensures) (bytes-unhexes (c .before .before .before .before .before .before .before .before .before .before .before .before .args .info .now)) (c .before .before .before .before .before .before .before .before .reading12 .given .1) in
-    let q = part-went serial noSerial (unhexes (c .before .before .before .before .before .before .before .before .before .before .before .before .args .info .now)) (c .before .before .before .before .before .before .before .before .reading12 .given .0 .0) (c .before .before .before .before .before .before .read-serial .result .reading) (c .before .before .before .before .before .before .read-serial .result .serial) (c .before .before .before .before .before .before .read-serial .ensures) (bytes-unhexes (c .before .before .before .before .before .before .before .before .before .before .before .before .args .info .now)) (c .before .before .before .before .reading22 .given .1) in
+    let start = c .before .before .before .before .before .before .before .before .before .before .before .before in
+    let adr = start .args .adr in
+    let info = start .args .info .now in
+    let read-command = c .before .before .before .before .before .before .before .before .before .before .read-command in
+    let reading12 = c .before .before .before .before .before .before .before .before .reading12 in
+    let read-serial = c .before .before .before .before .before .before .read-serial in
+    let reading22 = c .before .before .before .before .reading22 in
+    let p = part-went (command adr) adr (unhexes info) 0 (read-command .result) (adr) (read-command .ensures) (bytes-unhexes info) (reading12 .given .1) in
+    let q = part-went serial noSerial (unhexes info) (reading12 .given .0 .0) (read-serial .result .reading) (read-serial .result .serial) (read-serial .ensures) (bytes-unhexes info) (reading22 .given .1) in
     ap (λ (x : SerialTaken). paper (x .taken) (x .serial)) (c .no-serial3 .ensures)
-    ∙ left-over noSerial (λ (b : List ℕ). unflagged (((c .before .before .before .before .before .before .before .before .before .before .before .before .args .adr)), b)) serial (unhexes (c .before .before .before .before .before .before .before .before .before .before .before .before .args .info .now)) (c .before .before .before .before .before .before .before .before .reading12 .given .0 .0) (c .before .before .before .before .reading22 .given .0 .0) (q .get) (omega (arith, c .before .before .byte-count .ensures))
-    ∙ first-read noSerial unflagged (command (c .before .before .before .before .before .before .before .before .before .before .before .before .args .adr)) (λ x. ended serial) (unhexes (c .before .before .before .before .before .before .before .before .before .before .before .before .args .info .now)) (p .get)
+    ∙ left-over noSerial (λ (b : List ℕ). unflagged ((adr), b)) serial (unhexes info) (reading12 .given .0 .0) (reading22 .given .0 .0) (q .get) (omega (arith, c .before .before .byte-count .ensures))
+    ∙ first-read noSerial unflagged (command adr) (λ x. ended serial) (unhexes info) (p .get)
 
 returns-2 : tie.Need-returns-2
 unfolding serialInfo
 returns-2 c =
+    let start = c .before .before .before .before .before .before in
+    let adr = start .args .adr in
+    let info = start .args .info .now in
+    let read-command = c .before .before .before .before .read-command in
     ap (λ (x : SerialTaken). paper (x .taken) (x .serial)) (c .no-serial .ensures)
-    ∙ first-refused noSerial unflagged (command (c .before .before .before .before .before .before .args .adr)) (λ x. ended serial) (unhexes (c .before .before .before .before .before .before .args .info .now)) (part-stopped (command (c .before .before .before .before .before .before .args .adr)) (c .before .before .before .before .before .before .args .adr) (unhexes (c .before .before .before .before .before .before .args .info .now)) 0 (c .before .before .before .before .read-command .result) ((c .before .before .before .before .before .before .args .adr)) (c .before .before .before .before .read-command .ensures) (c .before .before .reading1 .given .1))
+    ∙ first-refused noSerial unflagged (command adr) (λ x. ended serial) (unhexes info) (part-stopped (command adr) adr (unhexes info) 0 (read-command .result) (adr) (read-command .ensures) (c .before .before .reading1 .given .1))
 
 returns-3 : tie.Need-returns-3
 unfolding serialInfo
 returns-3 c =
-    let p = part-went (command (c .before .before .before .before .before .before .before .before .before .before .args .adr)) (c .before .before .before .before .before .before .before .before .before .before .args .adr) (unhexes (c .before .before .before .before .before .before .before .before .before .before .args .info .now)) 0 (c .before .before .before .before .before .before .before .before .read-command .result) ((c .before .before .before .before .before .before .before .before .before .before .args .adr)) (c .before .before .before .before .before .before .before .before .read-command .ensures) (bytes-unhexes (c .before .before .before .before .before .before .before .before .before .before .args .info .now)) (c .before .before .before .before .before .before .reading12 .given .1) in
+    let start = c .before .before .before .before .before .before .before .before .before .before in
+    let adr = start .args .adr in
+    let info = start .args .info .now in
+    let read-command = c .before .before .before .before .before .before .before .before .read-command in
+    let reading12 = c .before .before .before .before .before .before .reading12 in
+    let read-serial = c .before .before .before .before .read-serial in
+    let p = part-went (command adr) adr (unhexes info) 0 (read-command .result) (adr) (read-command .ensures) (bytes-unhexes info) (reading12 .given .1) in
     ap (λ (x : SerialTaken). paper (x .taken) (x .serial)) (c .no-serial2 .ensures)
-    ∙ record-refused noSerial (λ (b : List ℕ). unflagged (((c .before .before .before .before .before .before .before .before .before .before .args .adr)), b)) serial (unhexes (c .before .before .before .before .before .before .before .before .before .before .args .info .now)) (c .before .before .before .before .before .before .reading12 .given .0 .0) (part-stopped serial noSerial (unhexes (c .before .before .before .before .before .before .before .before .before .before .args .info .now)) (c .before .before .before .before .before .before .reading12 .given .0 .0) (c .before .before .before .before .read-serial .result .reading) (c .before .before .before .before .read-serial .result .serial) (c .before .before .before .before .read-serial .ensures) (c .before .before .reading2 .given .1))
-    ∙ first-read noSerial unflagged (command (c .before .before .before .before .before .before .before .before .before .before .args .adr)) (λ x. ended serial) (unhexes (c .before .before .before .before .before .before .before .before .before .before .args .info .now)) (p .get)
+    ∙ record-refused noSerial (λ (b : List ℕ). unflagged ((adr), b)) serial (unhexes info) (reading12 .given .0 .0) (part-stopped serial noSerial (unhexes info) (reading12 .given .0 .0) (read-serial .result .reading) (read-serial .result .serial) (read-serial .ensures) (c .before .before .reading2 .given .1))
+    ∙ first-read noSerial unflagged (command adr) (λ x. ended serial) (unhexes info) (p .get)
 
 returns-4 : tie.Need-returns-4
 unfolding serialInfo
 returns-4 c =
-    let p = part-went (command (c .before .before .before .before .before .before .before .before .before .before .before .before .args .adr)) (c .before .before .before .before .before .before .before .before .before .before .before .before .args .adr) (unhexes (c .before .before .before .before .before .before .before .before .before .before .before .before .args .info .now)) 0 (c .before .before .before .before .before .before .before .before .before .before .read-command .result) ((c .before .before .before .before .before .before .before .before .before .before .before .before .args .adr)) (c .before .before .before .before .before .before .before .before .before .before .read-command .ensures) (bytes-unhexes (c .before .before .before .before .before .before .before .before .before .before .before .before .args .info .now)) (c .before .before .before .before .before .before .before .before .reading12 .given .1) in
-    let q = part-went serial noSerial (unhexes (c .before .before .before .before .before .before .before .before .before .before .before .before .args .info .now)) (c .before .before .before .before .before .before .before .before .reading12 .given .0 .0) (c .before .before .before .before .before .before .read-serial .result .reading) (c .before .before .before .before .before .before .read-serial .result .serial) (c .before .before .before .before .before .before .read-serial .ensures) (bytes-unhexes (c .before .before .before .before .before .before .before .before .before .before .before .before .args .info .now)) (c .before .before .before .before .reading22 .given .1) in
-    all-found noSerial (λ (b : List ℕ). unflagged (((c .before .before .before .before .before .before .before .before .before .before .before .before .args .adr)), b)) serial (unhexes (c .before .before .before .before .before .before .before .before .before .before .before .before .args .info .now)) (c .before .before .before .before .before .before .before .before .reading12 .given .0 .0) (c .before .before .before .before .reading22 .given .0 .0) (q .get) (omega (arith, c .before .before .byte-count .ensures))
-    ∙ first-read noSerial unflagged (command (c .before .before .before .before .before .before .before .before .before .before .before .before .args .adr)) (λ x. ended serial) (unhexes (c .before .before .before .before .before .before .before .before .before .before .before .before .args .info .now)) (p .get)
+    let start = c .before .before .before .before .before .before .before .before .before .before .before .before in
+    let adr = start .args .adr in
+    let info = start .args .info .now in
+    let read-command = c .before .before .before .before .before .before .before .before .before .before .read-command in
+    let reading12 = c .before .before .before .before .before .before .before .before .reading12 in
+    let read-serial = c .before .before .before .before .before .before .read-serial in
+    let reading22 = c .before .before .before .before .reading22 in
+    let p = part-went (command adr) adr (unhexes info) 0 (read-command .result) (adr) (read-command .ensures) (bytes-unhexes info) (reading12 .given .1) in
+    let q = part-went serial noSerial (unhexes info) (reading12 .given .0 .0) (read-serial .result .reading) (read-serial .result .serial) (read-serial .ensures) (bytes-unhexes info) (reading22 .given .1) in
+    all-found noSerial (λ (b : List ℕ). unflagged ((adr), b)) serial (unhexes info) (reading12 .given .0 .0) (reading22 .given .0 .0) (q .get) (omega (arith, c .before .before .byte-count .ensures))
+    ∙ first-read noSerial unflagged (command adr) (λ x. ended serial) (unhexes info) (p .get)
 
 pub take-serial-spec : {M : Type 1} → statement M
 take-serial-spec =

@@ -50,33 +50,57 @@ no-version-requires-3 c κs = search needs
 returns : tie.Need-returns
 unfolding versionInfo
 returns c =
-    let p = part-went (command (c .before .before .before .before .before .before .before .before .before .before .before .before .args .adr)) (c .before .before .before .before .before .before .before .before .before .before .before .before .args .adr) (unhexes (c .before .before .before .before .before .before .before .before .before .before .before .before .args .info .now)) 0 (c .before .before .before .before .before .before .before .before .before .before .read-command .result) ((c .before .before .before .before .before .before .before .before .before .before .before .before .args .adr)) (c .before .before .before .before .before .before .before .before .before .before .read-command .ensures) (bytes-unhexes (c .before .before .before .before .before .before .before .before .before .before .before .before .args .info .now)) (c .before .before .before .before .before .before .before .before .reading12 .given .1) in
-    let q = part-went version noVersion (unhexes (c .before .before .before .before .before .before .before .before .before .before .before .before .args .info .now)) (c .before .before .before .before .before .before .before .before .reading12 .given .0 .0) (c .before .before .before .before .before .before .read-version .result .reading) (c .before .before .before .before .before .before .read-version .result .version) (c .before .before .before .before .before .before .read-version .ensures) (bytes-unhexes (c .before .before .before .before .before .before .before .before .before .before .before .before .args .info .now)) (c .before .before .before .before .reading22 .given .1) in
+    let start = c .before .before .before .before .before .before .before .before .before .before .before .before in
+    let adr = start .args .adr in
+    let info = start .args .info .now in
+    let read-command = c .before .before .before .before .before .before .before .before .before .before .read-command in
+    let reading12 = c .before .before .before .before .before .before .before .before .reading12 in
+    let read-version = c .before .before .before .before .before .before .read-version in
+    let reading22 = c .before .before .before .before .reading22 in
+    let p = part-went (command adr) adr (unhexes info) 0 (read-command .result) (adr) (read-command .ensures) (bytes-unhexes info) (reading12 .given .1) in
+    let q = part-went version noVersion (unhexes info) (reading12 .given .0 .0) (read-version .result .reading) (read-version .result .version) (read-version .ensures) (bytes-unhexes info) (reading22 .given .1) in
     ap (λ (x : VersionTaken). paper (x .taken) (x .version)) (c .no-version3 .ensures)
-    ∙ left-over noVersion (λ (b : List ℕ). unflagged (((c .before .before .before .before .before .before .before .before .before .before .before .before .args .adr)), b)) version (unhexes (c .before .before .before .before .before .before .before .before .before .before .before .before .args .info .now)) (c .before .before .before .before .before .before .before .before .reading12 .given .0 .0) (c .before .before .before .before .reading22 .given .0 .0) (q .get) (omega (arith, c .before .before .byte-count .ensures))
-    ∙ first-read noVersion unflagged (command (c .before .before .before .before .before .before .before .before .before .before .before .before .args .adr)) (λ x. ended version) (unhexes (c .before .before .before .before .before .before .before .before .before .before .before .before .args .info .now)) (p .get)
+    ∙ left-over noVersion (λ (b : List ℕ). unflagged ((adr), b)) version (unhexes info) (reading12 .given .0 .0) (reading22 .given .0 .0) (q .get) (omega (arith, c .before .before .byte-count .ensures))
+    ∙ first-read noVersion unflagged (command adr) (λ x. ended version) (unhexes info) (p .get)
 
 returns-2 : tie.Need-returns-2
 unfolding versionInfo
 returns-2 c =
+    let start = c .before .before .before .before .before .before in
+    let adr = start .args .adr in
+    let info = start .args .info .now in
+    let read-command = c .before .before .before .before .read-command in
     ap (λ (x : VersionTaken). paper (x .taken) (x .version)) (c .no-version .ensures)
-    ∙ first-refused noVersion unflagged (command (c .before .before .before .before .before .before .args .adr)) (λ x. ended version) (unhexes (c .before .before .before .before .before .before .args .info .now)) (part-stopped (command (c .before .before .before .before .before .before .args .adr)) (c .before .before .before .before .before .before .args .adr) (unhexes (c .before .before .before .before .before .before .args .info .now)) 0 (c .before .before .before .before .read-command .result) ((c .before .before .before .before .before .before .args .adr)) (c .before .before .before .before .read-command .ensures) (c .before .before .reading1 .given .1))
+    ∙ first-refused noVersion unflagged (command adr) (λ x. ended version) (unhexes info) (part-stopped (command adr) adr (unhexes info) 0 (read-command .result) (adr) (read-command .ensures) (c .before .before .reading1 .given .1))
 
 returns-3 : tie.Need-returns-3
 unfolding versionInfo
 returns-3 c =
-    let p = part-went (command (c .before .before .before .before .before .before .before .before .before .before .args .adr)) (c .before .before .before .before .before .before .before .before .before .before .args .adr) (unhexes (c .before .before .before .before .before .before .before .before .before .before .args .info .now)) 0 (c .before .before .before .before .before .before .before .before .read-command .result) ((c .before .before .before .before .before .before .before .before .before .before .args .adr)) (c .before .before .before .before .before .before .before .before .read-command .ensures) (bytes-unhexes (c .before .before .before .before .before .before .before .before .before .before .args .info .now)) (c .before .before .before .before .before .before .reading12 .given .1) in
+    let start = c .before .before .before .before .before .before .before .before .before .before in
+    let adr = start .args .adr in
+    let info = start .args .info .now in
+    let read-command = c .before .before .before .before .before .before .before .before .read-command in
+    let reading12 = c .before .before .before .before .before .before .reading12 in
+    let read-version = c .before .before .before .before .read-version in
+    let p = part-went (command adr) adr (unhexes info) 0 (read-command .result) (adr) (read-command .ensures) (bytes-unhexes info) (reading12 .given .1) in
     ap (λ (x : VersionTaken). paper (x .taken) (x .version)) (c .no-version2 .ensures)
-    ∙ record-refused noVersion (λ (b : List ℕ). unflagged (((c .before .before .before .before .before .before .before .before .before .before .args .adr)), b)) version (unhexes (c .before .before .before .before .before .before .before .before .before .before .args .info .now)) (c .before .before .before .before .before .before .reading12 .given .0 .0) (part-stopped version noVersion (unhexes (c .before .before .before .before .before .before .before .before .before .before .args .info .now)) (c .before .before .before .before .before .before .reading12 .given .0 .0) (c .before .before .before .before .read-version .result .reading) (c .before .before .before .before .read-version .result .version) (c .before .before .before .before .read-version .ensures) (c .before .before .reading2 .given .1))
-    ∙ first-read noVersion unflagged (command (c .before .before .before .before .before .before .before .before .before .before .args .adr)) (λ x. ended version) (unhexes (c .before .before .before .before .before .before .before .before .before .before .args .info .now)) (p .get)
+    ∙ record-refused noVersion (λ (b : List ℕ). unflagged ((adr), b)) version (unhexes info) (reading12 .given .0 .0) (part-stopped version noVersion (unhexes info) (reading12 .given .0 .0) (read-version .result .reading) (read-version .result .version) (read-version .ensures) (c .before .before .reading2 .given .1))
+    ∙ first-read noVersion unflagged (command adr) (λ x. ended version) (unhexes info) (p .get)
 
 returns-4 : tie.Need-returns-4
 unfolding versionInfo
 returns-4 c =
-    let p = part-went (command (c .before .before .before .before .before .before .before .before .before .before .before .before .args .adr)) (c .before .before .before .before .before .before .before .before .before .before .before .before .args .adr) (unhexes (c .before .before .before .before .before .before .before .before .before .before .before .before .args .info .now)) 0 (c .before .before .before .before .before .before .before .before .before .before .read-command .result) ((c .before .before .before .before .before .before .before .before .before .before .before .before .args .adr)) (c .before .before .before .before .before .before .before .before .before .before .read-command .ensures) (bytes-unhexes (c .before .before .before .before .before .before .before .before .before .before .before .before .args .info .now)) (c .before .before .before .before .before .before .before .before .reading12 .given .1) in
-    let q = part-went version noVersion (unhexes (c .before .before .before .before .before .before .before .before .before .before .before .before .args .info .now)) (c .before .before .before .before .before .before .before .before .reading12 .given .0 .0) (c .before .before .before .before .before .before .read-version .result .reading) (c .before .before .before .before .before .before .read-version .result .version) (c .before .before .before .before .before .before .read-version .ensures) (bytes-unhexes (c .before .before .before .before .before .before .before .before .before .before .before .before .args .info .now)) (c .before .before .before .before .reading22 .given .1) in
-    all-found noVersion (λ (b : List ℕ). unflagged (((c .before .before .before .before .before .before .before .before .before .before .before .before .args .adr)), b)) version (unhexes (c .before .before .before .before .before .before .before .before .before .before .before .before .args .info .now)) (c .before .before .before .before .before .before .before .before .reading12 .given .0 .0) (c .before .before .before .before .reading22 .given .0 .0) (q .get) (omega (arith, c .before .before .byte-count .ensures))
-    ∙ first-read noVersion unflagged (command (c .before .before .before .before .before .before .before .before .before .before .before .before .args .adr)) (λ x. ended version) (unhexes (c .before .before .before .before .before .before .before .before .before .before .before .before .args .info .now)) (p .get)
+    let start = c .before .before .before .before .before .before .before .before .before .before .before .before in
+    let adr = start .args .adr in
+    let info = start .args .info .now in
+    let read-command = c .before .before .before .before .before .before .before .before .before .before .read-command in
+    let reading12 = c .before .before .before .before .before .before .before .before .reading12 in
+    let read-version = c .before .before .before .before .before .before .read-version in
+    let reading22 = c .before .before .before .before .reading22 in
+    let p = part-went (command adr) adr (unhexes info) 0 (read-command .result) (adr) (read-command .ensures) (bytes-unhexes info) (reading12 .given .1) in
+    let q = part-went version noVersion (unhexes info) (reading12 .given .0 .0) (read-version .result .reading) (read-version .result .version) (read-version .ensures) (bytes-unhexes info) (reading22 .given .1) in
+    all-found noVersion (λ (b : List ℕ). unflagged ((adr), b)) version (unhexes info) (reading12 .given .0 .0) (reading22 .given .0 .0) (q .get) (omega (arith, c .before .before .byte-count .ensures))
+    ∙ first-read noVersion unflagged (command adr) (λ x. ended version) (unhexes info) (p .get)
 
 pub take-version-spec : {M : Type 1} → statement M
 take-version-spec =

@@ -2,7 +2,6 @@
 use mathlib.Core.Path.{ap, _∙_}
 use Prim.Native.Nat.{_-_}
 use native.Mathlib.Omega.{arith}
-use lib.Dec.{T}
 use borrow.Author.Needs.{needs}
 use Rattle.readers.proofs.Steps.{list-went, list-stopped}
 use Rattle.readers.specs.declared.SerialRead.{SerialRead}
@@ -10,8 +9,7 @@ use Rattle.readers.specs.Nothing.{noSerial}
 use Rattle.readers.specs.Readings.{paper}
 use Rattle.record.specs.Texts.{serial}
 use Rattle.codec.proofs.Places.{found, stops}
-use Rattle.codec.specs.Reading.{read}
-use Rattle.codec.specs.Codec.{byte, no}
+use Rattle.codec.specs.Codec.{byte}
 use Rattle.hex.specs.Hex.{unhexes}
 use Rattle.readers.proofs.read_serial.Statement.{statement}
 use Rattle.readers.proofs.read_serial.Tie as tie
@@ -34,14 +32,22 @@ enum-known-filled-2 c = search needs
 returns : tie.Need-returns
 unfolding serial
 returns c =
+    let start = c .before .before .before .before .before .before .before .before in
+    let info = start .args .info .now in
+    let place = start .args .at in
+    let fill-bytes = c .before .before .before .before .before .fill-bytes in
     ap (λ (x : SerialRead). paper (x .reading) (x .serial)) (c .no-serial .ensures)
-    ∙ stops serial noSerial (unhexes (c .before .before .before .before .before .before .before .before .args .info .now)) (c .before .before .before .before .before .before .before .before .args .at) (list-stopped byte (unhexes (c .before .before .before .before .before .before .before .before .args .info .now)) (c .before .before .before .before .before .before .before .before .args .at) 16 (c .before .before .before .before .before .fill-bytes .result) (c .before .before .before .before .before .fill-bytes .last .1 .1 .0) (c .before .before .before .before .before .fill-bytes .ensures) (c .before .before .filled .given .1))
+    ∙ stops serial noSerial (unhexes info) place (list-stopped byte (unhexes info) place 16 (fill-bytes .result) (fill-bytes .last .1 .1 .0) (fill-bytes .ensures) (c .before .before .filled .given .1))
 
 returns-2 : tie.Need-returns-2
 unfolding serial
 returns-2 c =
-    let f = list-went byte (unhexes (c .before .before .before .before .before .before .before .args .info .now)) (c .before .before .before .before .before .before .before .args .at) 16 (c .before .before .before .before .fill-bytes .result) (c .before .before .before .before .fill-bytes .last .1 .1 .0) (c .before .before .before .before .fill-bytes .ensures) (c .before .filled2 .given .1) in
-    found serial noSerial (unhexes (c .before .before .before .before .before .before .before .args .info .now)) (c .before .before .before .before .before .before .before .args .at) (f .0) (f .1 (omega arith))
+    let start = c .before .before .before .before .before .before .before in
+    let info = start .args .info .now in
+    let place = start .args .at in
+    let fill-bytes = c .before .before .before .before .fill-bytes in
+    let f = list-went byte (unhexes info) place 16 (fill-bytes .result) (fill-bytes .last .1 .1 .0) (fill-bytes .ensures) (c .before .filled2 .given .1) in
+    found serial noSerial (unhexes info) place (f .0) (f .1 (omega arith))
 
 pub read-serial-spec : {M : Type 1} → statement M
 read-serial-spec =

@@ -2,8 +2,6 @@
 use mathlib.Core.Path.{sym, ap}
 use Prim.Native.Nat.{_-_}
 use borrow.Author.Needs.{needs}
-use Rattle.receiver.specs.Step.{paper}
-use Rattle.receiver.specs.Scan.{before}
 use Rattle.frame.specs.Judge.{paper as paperJudged}
 use Rattle.receiver.proofs.event_of.Statement.{statement}
 use Rattle.receiver.proofs.event_of.Tie as tie

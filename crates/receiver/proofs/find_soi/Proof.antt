@@ -19,7 +19,8 @@ shared-slice-read-if2 c = search needs
 
 returns-2 : tie.Need-returns-2
 returns-2 c =
-    let s = c .before .before .before .before .args .s .now in
+    let start = c .before .before .before .before in
+    let s = start .args .s .now in
     before-here isSoi s 0 (omega arith) (eq-eqb _ _ (c .if2 .taken)) (sym (zero-add (before isSoi s)))
 
 pass-without-soi-requires : tie.Need-pass-without-soi-requires

@@ -22,8 +22,9 @@ shared-slice-read-if1 c = omega arith
 
 returns : tie.Need-returns Inv-loop μ-loop
 returns c =
+    let start = c .before .before .before .before in
     let l = c .before .before .before .loop in
-    before-here isSoi (c .before .before .before .before .args .s .now) (l .i) (omega arith) (eq-eqb _ _ (c .if1 .taken)) (l .inv .1)
+    before-here isSoi (start .args .s .now) (l .i) (omega arith) (eq-eqb _ _ (c .if1 .taken)) (l .inv .1)
 
 add-i : tie.Need-add-i Inv-loop μ-loop
 add-i c = omega arith
@@ -33,8 +34,9 @@ loop-less c = omega arith
 
 loop-again : tie.Need-loop-again Inv-loop μ-loop
 loop-again c =
+    let start = c .before .before .before .before in
     let l = c .before .before .before .loop in
-    (omega arith, before-one isSoi (c .before .before .before .before .args .s .now) (l .i) (omega arith) (ne-eqb _ _ (c .if1 .left)) (l .inv .1))
+    (omega arith, before-one isSoi (start .args .s .now) (l .i) (omega arith) (ne-eqb _ _ (c .if1 .left)) (l .inv .1))
 
 returns-2 : tie.Need-returns-2 Inv-loop μ-loop
 returns-2 c = before-end isSoi (c .before .before .args .s .now) (c .before .loop .i) (omega arith) (c .before .loop .inv .1)

@@ -7,7 +7,7 @@ use lib.Dec.{eqb}
 use lib.ListN.{length, getD, drop}
 use Rattle.receiver.proofs.Scans.{or-cross, any-turn, any-end}
 use Rattle.frame.specs.Frame.{SOI, CR}
-use Rattle.receiver.specs.Scan.{isEnd, any, before}
+use Rattle.receiver.specs.Scan.{isEnd, any}
 use Rattle.receiver.proofs.has_end.Statement.{statement}
 use Rattle.receiver.proofs.has_end.Tie as tie
 

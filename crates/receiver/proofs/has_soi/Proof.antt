@@ -5,7 +5,7 @@ use Prim.Native.Nat.{_-_, _≤_}
 use native.Mathlib.Omega.{arith}
 use lib.ListN.{length, drop}
 use Rattle.receiver.proofs.Scans.{any-turn, any-end}
-use Rattle.receiver.specs.Scan.{isSoi, any, before}
+use Rattle.receiver.specs.Scan.{isSoi, any}
 use Rattle.receiver.proofs.has_soi.Statement.{statement}
 use Rattle.receiver.proofs.has_soi.Tie as tie
 

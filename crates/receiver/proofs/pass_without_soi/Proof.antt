@@ -47,9 +47,10 @@ loop-less c = omega arith
 
 loop-again : tie.Need-loop-again Inv-loop μ-loop
 loop-again c =
+    let start = c .before .before .before .before .before .before in
     let l = c .before .before .before .before .loop in
-    let s = c .before .before .before .before .before .before .args .s .now in
-    let w = c .before .before .before .before .before .before .args .width in
+    let s = start .args .s .now in
+    let w = start .args .width in
     let wide : w ≡ l .i + w - l .i = omega arith in
     let none : any isSoi (take w (drop (l .i) s)) ≡ false = ap (λ (k : ℕ). any isSoi (take k (drop (l .i) s))) wide ∙ sym (c .before .has-soi .ensures) ∙ c .if1 .left in
     (l .inv .0, (omega arith, before-skip isSoi s (l .i) w (omega arith) none (l .inv .1 .1)))

@@ -23,7 +23,8 @@ returns-2 c = search needs
 
 pass-plain-requires : tie.Need-pass-plain-requires
 pass-plain-requires c κs =
-    let s = c .before .before .before .before .before .args .s .now in
+    let start = c .before .before .before .before .before in
+    let s = start .args .s .now in
     (omega arith, (omega arith, before-skip isEnd s 0 4 (omega arith) (sym (c .before .has-end .ensures) ∙ c .if2 .left) (sym (zero-add (before isEnd s)))))
 
 pass-plain-requires-2 : tie.Need-pass-plain-requires-2

@@ -1,12 +1,11 @@
 -- The loop's invariant: k bytes were stored, none of them SOI or CR.
 use mathlib.Core.Bool.{not, _&&_}
 use mathlib.Core.Path.{_≡_, refl}
-use Prim.Native.Nat.{ℕ, _+_, _-_, _≤_, zero-le}
+use Prim.Native.Nat.{_-_, _≤_, zero-le}
 use native.Mathlib.Omega.{arith}
 use lib.Dec.{eqb}
 use lib.Seq.{paste, paste-zero}
 use lib.ListN.{length, length-set}
-use borrow.Author.Needs.{needs}
 use Rattle.receiver.specs.Scan.{isEnd, before}
 use Rattle.receiver.proofs.Storing.{stored-none, stored-copy, one-at-most, store-turn}
 use Rattle.receiver.proofs.store_few.Statement.{statement}
@@ -50,7 +49,8 @@ one-if-requires c κs = tt
 
 add-k : tie.Need-add-k Inv-loop μ-loop
 add-k c =
-    let l = c .before .before .before .before .before .before .loop in
+    let loop = c .before .before .before .before .before .before .loop in
+    let l = loop in
     omega (arith, one-at-most (eqb (l .k) (l .j) && not (c .before .before .before .is-end .result)) (c .one-if .ensures))
 
 add-j : tie.Need-add-j Inv-loop μ-loop
@@ -61,17 +61,21 @@ loop-less c = omega arith
 
 loop-again : tie.Need-loop-again Inv-loop μ-loop
 loop-again c =
-    let l = c .before .before .before .before .before .before .loop in
+    let loop = c .before .before .before .before .before .before .loop in
+    let is-end = c .before .before .before .is-end in
+    let l = loop in
     let start = c .before .before .before .before .before .before .before .before .before .before in
     let a = start .args in
-    let turn = store-turn (a .store .now) (a .at) (a .s .now) (l .store) (l .k) (l .j) (start .pre .fits) (omega arith) (l .inv .3) (l .inv .4) (c .before .before .before .is-end .result) (c .before .before .before .is-end .ensures) (c .before .pick .ensures) (c .one-if .ensures) in
-    (simp length-set (l .inv .0), omega arith, omega (arith, one-at-most (eqb (l .k) (l .j) && not (c .before .before .before .is-end .result)) (c .one-if .ensures)), turn .0, turn .1)
+    let turn = store-turn (a .store .now) (a .at) (a .s .now) (l .store) (l .k) (l .j) (start .pre .fits) (omega arith) (l .inv .3) (l .inv .4) (is-end .result) (is-end .ensures) (c .before .pick .ensures) (c .one-if .ensures) in
+    (simp length-set (l .inv .0), omega arith, omega (arith, one-at-most (eqb (l .k) (l .j) && not (is-end .result)) (c .one-if .ensures)), turn .0, turn .1)
 
 same-length : tie.Need-same-length Inv-loop μ-loop
 same-length c = omega arith
 
 returns-2 : tie.Need-returns-2 Inv-loop μ-loop
-returns-2 c = let a = c .before .before .before .before .before .args in stored-copy (a .store .now) (a .at) (a .s .now) (c .before .loop .k) (c .before .loop .store) (c .before .loop .inv .3) (c .before .loop .inv .4)
+returns-2 c =
+    let start = c .before .before .before .before .before in
+    let a = start .args in stored-copy (a .store .now) (a .at) (a .s .now) (c .before .loop .k) (c .before .loop .store) (c .before .loop .inv .3) (c .before .loop .inv .4)
 
 pub store-few-spec : {M : Type 1} → statement M
 store-few-spec =

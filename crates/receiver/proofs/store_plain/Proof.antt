@@ -14,14 +14,16 @@ use Rattle.receiver.proofs.store_plain.Tie as tie
 -- no more was found than may be stored
 few : (c : tie.After-plain) → c .plain .result ≤ c .before .before .least .result
 few c =
-    let piece = c .before .before .before .before .before .args .piece .now in
+    let start = c .before .before .before .before .before in
+    let piece = start .args .piece .now in
     let most : ℕ = c .before .before .least .result in
     omega (arith, c .plain .ensures, before-le isEnd (take most piece), length-take-le most piece (c .before .before .least .ensures .1))
 
 -- as many as are left behind it
 behind : (c : tie.After-plain) → length (take (c .before .before .least .result - c .plain .result) (drop (c .plain .result) (c .before .before .before .before .before .args .piece .now))) ≡ c .before .before .least .result - c .plain .result
 behind c =
-    let piece = c .before .before .before .before .before .args .piece .now in
+    let start = c .before .before .before .before .before in
+    let piece = start .args .piece .now in
     length-take-le (c .before .before .least .result - c .plain .result) (drop (c .plain .result) piece) (omega (arith, few c, c .before .before .least .ensures, length-drop (c .plain .result) piece))
 
 sub-least : tie.Need-sub-least
@@ -57,16 +59,20 @@ part-store-few-end c = search needs
 
 store-few-requires : tie.Need-store-few-requires
 store-few-requires c κs =
+    let the-least = c .before .before .before .before .before .before .before .before .before .least in
+    let put-all = c .before .before .before .before .put-all in
     let found = c .before .before .before .before .before .before .before in
-    let least = c .before .before .before .before .before .before .before .before .before .least in
+    let least = the-least in
     let start = c .before .before .before .before .before .before .before .before .before .before .before .before in
-    record { fits = omega (arith, few found, behind found, least .ensures, start .pre, length-take-le (found .plain .result) (start .args .piece .now) (omega (arith, few found, least .ensures)), c .before .before .before .before .put-all .ensures .end, c .before .before .before .before .put-all .kept .0) }
+    record { fits = omega (arith, few found, behind found, least .ensures, start .pre, length-take-le (found .plain .result) (start .args .piece .now) (omega (arith, few found, least .ensures)), put-all .ensures .end, put-all .kept .0) }
 
 add-result : tie.Need-add-result
 add-result c =
+    let start = c .before .before .before .before .before .before .before .before .before .before .before .before .before .before .before in
+    let the-least = c .before .before .before .before .before .before .before .before .before .before .before .before .least in
     let found = c .before .before .before .before .before .before .before .before .before .before in
-    let least = c .before .before .before .before .before .before .before .before .before .before .before .before .least in
-    let s = take (least .result - found .plain .result) (drop (found .plain .result) (c .before .before .before .before .before .before .before .before .before .before .before .before .before .before .before .args .piece .now)) in
+    let least = the-least in
+    let s = take (least .result - found .plain .result) (drop (found .plain .result) (start .args .piece .now)) in
     omega (arith, few found, behind found, least .ensures, c .before .before .store-few .ensures .few, before-le isEnd s)
 
 same-length : tie.Need-same-length
@@ -74,11 +80,13 @@ same-length c = search needs
 
 returns : tie.Need-returns
 returns c =
+    let the-least = c .before .before .before .before .before .before .before .before .before .before .before .before .least in
+    let put-all = c .before .before .before .before .before .before .before .put-all in
     let found = c .before .before .before .before .before .before .before .before .before .before in
-    let least = c .before .before .before .before .before .before .before .before .before .before .before .before .least in
+    let least = the-least in
     let start = c .before .before .before .before .before .before .before .before .before .before .before .before .before .before .before in
     let a = start .args in
-    passed-both (a .count) (a .store .now) (a .piece .now) _ _ (least .result) (found .plain .result) (c .before .before .store-few .result) _ (start .pre .0) (omega (arith, least .ensures, start .pre)) (least .ensures .1) (found .plain .ensures) (c .before .before .before .before .before .before .before .put-all .ensures) (c .before .before .store-few .ensures)
+    passed-both (a .count) (a .store .now) (a .piece .now) _ _ (least .result) (found .plain .result) (c .before .before .store-few .result) _ (start .pre .0) (omega (arith, least .ensures, start .pre)) (least .ensures .1) (found .plain .ensures) (put-all .ensures) (c .before .before .store-few .ensures)
 
 pub store-plain-spec : {M : Type 1} → statement M
 store-plain-spec =

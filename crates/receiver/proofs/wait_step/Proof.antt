@@ -1,9 +1,6 @@
 -- The two rows of a waiting receiver.
 use Prim.Native.Nat.{_-_}
-use lib.ListN.{take}
 use Rattle.receiver.proofs.Rows.{row-opens, row-idle}
-use Rattle.receiver.specs.Step.{step}
-use Rattle.receiver.specs.Scan.{before}
 use Rattle.receiver.proofs.wait_step.Statement.{statement}
 use Rattle.receiver.proofs.wait_step.Tie as tie
 

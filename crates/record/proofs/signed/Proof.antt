@@ -1,6 +1,5 @@
 -- Words from 8000H up are 65536 more than the number.
 use mir.Facts.{sfits-toZ}
-use mir.Val.{toZ}
 use borrow.Author.Needs.{needs}
 use Rattle.record.proofs.Sixteen.{as32, as16, back16, below-zero}
 use Rattle.record.proofs.signed.Statement.{statement}

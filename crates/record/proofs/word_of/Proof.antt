@@ -4,7 +4,6 @@ use Prim.Native.Nat.{_+_}
 use lib.Signed.{ltZ}
 use lib.IntN.{ℤ, pos, natAbs, _+ℤ_}
 use mir.Facts.{toZ-ofZ, fits-ofZ}
-use mir.Val.{toZ, ofZ}
 use Rattle.record.proofs.Sixteen.{as32, held, over-zero, not-below, plain32, plain-through, cast-asks}
 use Rattle.record.proofs.word_of.Statement.{statement}
 use Rattle.record.proofs.word_of.Tie as tie

@@ -1,14 +1,13 @@
 -- 31, the gate, then the data.
 use mathlib.Core.Path.{sym, ap, _∙_, subst}
 use Prim.Native.Nat.{_-_}
-use lib.ListN.{take}
 use borrow.Author.Tests.{not-true, not-false}
 use borrow.Author.Needs.{needs}
 use Rattle.reply.proofs.Ways.{way-broken, way-refused, way-open}
 use Rattle.reply.proofs.Taking.{not-read}
-use Rattle.reply.specs.Read.{given, readReply, Reads}
-use Rattle.gate.specs.Gate.{paper, gate}
-use Rattle.command.specs.Heard.{wordsOf, words}
+use Rattle.reply.specs.Read.{readReply, Reads}
+use Rattle.gate.specs.Gate.{paper}
+use Rattle.command.specs.Heard.{wordsOf}
 use Rattle.table.specs.Rule.{keeps}
 use Rattle.table.specs.Table.{members}
 use Rattle.reply.proofs.read.Statement.{statement}
@@ -21,7 +20,12 @@ not-read-requires : tie.Need-not-read-requires
 not-read-requires c κs = search needs
 
 returns : tie.Need-returns
-returns c = subst (Reads (readReply (keeps (c .before .before .before .before .args .table)) (members (c .before .before .before .before .args .table)) (c .before .before .before .before .args .question) (c .before .before .before .before .args .stretch .now)) (c .before .before .before .before .args .table)) (sym (c .not-read .ensures)) (not-read (c .before .before .before .before .args .table) _ _ (way-broken (keeps (c .before .before .before .before .args .table)) (members (c .before .before .before .before .args .table)) (c .before .before .before .before .args .question) (c .before .before .before .before .args .stretch .now) (sym (c .before .before .keeps-rule .ensures) ∙ not-true (c .before .before .keeps-rule .result) (c .before .if1 .taken))))
+returns c =
+    let start = c .before .before .before .before in
+    let table = start .args .table in
+    let question = start .args .question in
+    let stretch = start .args .stretch .now in
+    subst (Reads (readReply (keeps table) (members table) question stretch) table) (sym (c .not-read .ensures)) (not-read table _ _ (way-broken (keeps table) (members table) question stretch (sym (c .before .before .keeps-rule .ensures) ∙ not-true (c .before .before .keeps-rule .result) (c .before .if1 .taken))))
 
 hear-requires : tie.Need-hear-requires
 hear-requires c κs = search needs
@@ -42,10 +46,24 @@ read-open-requires : tie.Need-read-open-requires
 read-open-requires c κs = (c .before .before .before .hear .ensures, sym (c .before .before .gate .ensures) ∙ ap paper (c .enum-told .given .1))
 
 returns-2 : tie.Need-returns-2
-returns-2 c = subst (Reads (readReply (keeps (c .before .before .before .before .before .before .before .before .before .args .table)) (members (c .before .before .before .before .before .before .before .before .before .args .table)) (c .before .before .before .before .before .before .before .before .before .args .question) (c .before .before .before .before .before .before .before .before .before .args .stretch .now)) (c .before .before .before .before .before .before .before .before .before .args .table)) (sym (c .not-read2 .ensures)) (not-read (c .before .before .before .before .before .before .before .before .before .args .table) _ _ (way-refused (keeps (c .before .before .before .before .before .before .before .before .before .args .table)) (members (c .before .before .before .before .before .before .before .before .before .args .table)) (c .before .before .before .before .before .before .before .before .before .args .question) (c .before .before .before .before .before .before .before .before .before .args .stretch .now) (sym (c .before .before .before .before .before .before .before .keeps-rule .ensures) ∙ not-false (c .before .before .before .before .before .before .before .keeps-rule .result) (c .before .before .before .before .before .before .if1 .left)) (wordsOf (c .before .before .before .before .before .hear .result)) (c .before .before .before .before .before .hear .ensures) (c .before .before .entry .given .0 .0) (sym (ap paper (c .before .before .entry .given .1)) ∙ c .before .before .before .before .gate .ensures)))
+returns-2 c =
+    let start = c .before .before .before .before .before .before .before .before .before in
+    let table = start .args .table in
+    let question = start .args .question in
+    let stretch = start .args .stretch .now in
+    let keeps-rule = c .before .before .before .before .before .before .before .keeps-rule in
+    let if1 = c .before .before .before .before .before .before .if1 in
+    let hear = c .before .before .before .before .before .hear in
+    subst (Reads (readReply (keeps table) (members table) question stretch) table) (sym (c .not-read2 .ensures)) (not-read table _ _ (way-refused (keeps table) (members table) question stretch (sym (keeps-rule .ensures) ∙ not-false (keeps-rule .result) (if1 .left)) (wordsOf (hear .result)) (hear .ensures) (c .before .before .entry .given .0 .0) (sym (ap paper (c .before .before .entry .given .1)) ∙ c .before .before .before .before .gate .ensures)))
 
 returns-3 : tie.Need-returns-3
-returns-3 c = record { is = c .read-open .ensures .is ∙ way-open (keeps (c .before .before .before .before .before .before .before .before .args .table)) (members (c .before .before .before .before .before .before .before .before .args .table)) (c .before .before .before .before .before .before .before .before .args .question) (c .before .before .before .before .before .before .before .before .args .stretch .now) (sym (c .before .before .before .before .before .before .keeps-rule .ensures) ∙ not-false (c .before .before .before .before .before .before .keeps-rule .result) (c .before .before .before .before .before .if1 .left)) (wordsOf (c .before .before .before .before .hear .result)) (c .before .before .before .before .hear .ensures) (sym (ap paper (c .before .enum-told .given .1)) ∙ c .before .before .before .gate .ensures); kept = c .read-open .ensures .kept }
+returns-3 c =
+    let start = c .before .before .before .before .before .before .before .before in
+    let table = start .args .table in
+    let keeps-rule = c .before .before .before .before .before .before .keeps-rule in
+    let if1 = c .before .before .before .before .before .if1 in
+    let hear = c .before .before .before .before .hear in
+    record { is = c .read-open .ensures .is ∙ way-open (keeps table) (members table) (start .args .question) (start .args .stretch .now) (sym (keeps-rule .ensures) ∙ not-false (keeps-rule .result) (if1 .left)) (wordsOf (hear .result)) (hear .ensures) (sym (ap paper (c .before .enum-told .given .1)) ∙ c .before .before .before .gate .ensures); kept = c .read-open .ensures .kept }
 
 pub read-spec : {M : Type 1} → statement M
 read-spec =

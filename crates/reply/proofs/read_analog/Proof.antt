@@ -1,9 +1,8 @@
 -- Refused, or the part is stored in its record.
 use mathlib.Core.Path.{sym, subst}
 use Prim.Native.Nat.{_-_}
-use lib.ListN.{take}
 use borrow.Author.Needs.{needs}
-use Rattle.reply.proofs.Taking.{not-read, one-refused, one-read}
+use Rattle.reply.proofs.Taking.{one-refused, one-read}
 use Rattle.reply.specs.Read.{took, given, Reads}
 use Rattle.command.specs.declared.Kind.{Kind}
 use Rattle.changes.specs.Changes.{replaced, withAnalog}
@@ -36,11 +35,26 @@ was-read-requires c κs = search needs
 
 returns : tie.Need-returns
 unfolding took
-returns c = subst (Reads (given (c .before .before .before .before .before .before .args .ver) (members (c .before .before .before .before .before .before .args .table)) (took Kind.Analog (members (c .before .before .before .before .before .before .args .table)) (c .before .before .before .before .before .before .args .adr) (unhexes (c .before .before .before .before .before .before .args .info .now)))) (c .before .before .before .before .before .before .args .table)) (sym (c .not-read .ensures)) (one-refused noAnalog flagged (analogInfo (c .before .before .before .before .before .before .args .adr) .get (unhexes (c .before .before .before .before .before .before .args .info .now))) (c .before .before .before .before .take-analog .result .taken) (c .before .before .before .before .take-analog .result .analog) (c .before .before .before .before .take-analog .ensures) (c .before .before .before .before .before .before .args .ver) (c .before .before .before .before .before .before .args .table) (λ a. (noMaker, replaced (c .before .before .before .before .before .before .args .adr) (withAnalog a) (members (c .before .before .before .before .before .before .args .table)))) (c .before .before .taken .given .0 .0) (c .before .before .taken .given .1))
+returns c =
+    let start = c .before .before .before .before .before .before in
+    let ver = start .args .ver in
+    let table = start .args .table in
+    let adr = start .args .adr in
+    let info = start .args .info .now in
+    let take-analog = c .before .before .before .before .take-analog in
+    subst (Reads (given ver (members table) (took Kind.Analog (members table) adr (unhexes info))) table) (sym (c .not-read .ensures)) (one-refused noAnalog flagged (analogInfo adr .get (unhexes info)) (take-analog .result .taken) (take-analog .result .analog) (take-analog .ensures) ver table (λ a. (noMaker, replaced adr (withAnalog a) (members table))) (c .before .before .taken .given .0 .0) (c .before .before .taken .given .1))
 
 returns-2 : tie.Need-returns-2
 unfolding took
-returns-2 c = subst (Reads (given (c .before .before .before .before .before .before .before .before .args .ver) (members (c .before .before .before .before .before .before .before .before .args .table)) (took Kind.Analog (members (c .before .before .before .before .before .before .before .before .args .table)) (c .before .before .before .before .before .before .before .before .args .adr) (unhexes (c .before .before .before .before .before .before .before .before .args .info .now)))) (c .before .before .before .before .before .before .before .before .args .table)) (sym (c .was-read .ensures)) (one-read noAnalog flagged (analogInfo (c .before .before .before .before .before .before .before .before .args .adr) .get (unhexes (c .before .before .before .before .before .before .before .before .args .info .now))) (c .before .before .before .before .before .before .take-analog .result .taken) (c .before .before .before .before .before .before .take-analog .result .analog) (c .before .before .before .before .before .before .take-analog .ensures) (c .before .before .before .before .before .before .before .before .args .ver) (c .before .before .before .before .before .before .before .before .args .table) (λ a. (noMaker, replaced (c .before .before .before .before .before .before .before .before .args .adr) (withAnalog a) (members (c .before .before .before .before .before .before .before .before .args .table)))) (c .before .before .before .before .taken2 .given .0 .0) (c .before .before .before .before .taken2 .given .1) noMaker (c .before .with-analog .result) (λ i. (noMaker, c .before .with-analog .ensures .members-are i)) (c .before .with-analog .ensures .kept))
+returns-2 c =
+    let start = c .before .before .before .before .before .before .before .before in
+    let ver = start .args .ver in
+    let table = start .args .table in
+    let adr = start .args .adr in
+    let info = start .args .info .now in
+    let take-analog = c .before .before .before .before .before .before .take-analog in
+    let taken2 = c .before .before .before .before .taken2 in
+    subst (Reads (given ver (members table) (took Kind.Analog (members table) adr (unhexes info))) table) (sym (c .was-read .ensures)) (one-read noAnalog flagged (analogInfo adr .get (unhexes info)) (take-analog .result .taken) (take-analog .result .analog) (take-analog .ensures) ver table (λ a. (noMaker, replaced adr (withAnalog a) (members table))) (taken2 .given .0 .0) (taken2 .given .1) noMaker (c .before .with-analog .result) (λ i. (noMaker, c .before .with-analog .ensures .members-are i)) (c .before .with-analog .ensures .kept))
 
 pub read-analog-spec : {M : Type 1} → statement M
 read-analog-spec =

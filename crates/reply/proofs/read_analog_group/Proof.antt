@@ -1,9 +1,8 @@
 -- Refused, 22, or the parts are dealt out to the members that are on.
 use mathlib.Core.Path.{sym, _∙_, subst}
 use Prim.Native.Nat.{_-_}
-use lib.ListN.{take}
 use borrow.Author.Needs.{needs}
-use Rattle.reply.proofs.Taking.{not-read, analogs-few, all-refused, all-differ, all-read}
+use Rattle.reply.proofs.Taking.{analogs-few, all-refused, all-differ, all-read}
 use Rattle.reply.specs.Read.{took, given, Reads}
 use Rattle.command.specs.declared.Kind.{Kind}
 use Rattle.changes.specs.Changes.{withAnalog}
@@ -34,7 +33,14 @@ not-read-requires-2 c κs = search needs
 
 returns : tie.Need-returns
 unfolding took
-returns c = subst (Reads (given (c .before .before .before .before .before .before .before .before .before .args .ver) (members (c .before .before .before .before .before .before .before .before .before .args .table)) (took Kind.AnalogGroup (members (c .before .before .before .before .before .before .before .before .before .args .table)) (c .before .before .before .before .before .before .before .before .before .args .adr) (unhexes (c .before .before .before .before .before .before .before .before .before .args .info .now)))) (c .before .before .before .before .before .before .before .before .before .args .table)) (sym (c .not-read2 .ensures)) (all-differ noAnalog withAnalog (analogGroup .get (unhexes (c .before .before .before .before .before .before .before .before .before .args .info .now))) (analogs-few (unhexes (c .before .before .before .before .before .before .before .before .before .args .info .now))) (c .before .before .before .before .before .before .before .take-analog-group .result .taken) (c .before .before .before .before .before .before .before .take-analog-group .result .count) (c .before .before .before .before .before .before .before .take-analog-group .result .analogs) (c .before .before .before .before .before .before .before .take-analog-group .ensures) (c .before .before .before .before .before .before .before .before .before .args .ver) (c .before .before .before .before .before .before .before .before .before .args .table) (c .before .before .before .before .before .taken2 .given .0 .0) (c .before .before .before .before .before .taken2 .given .1) (λ e. c .before .if1 .taken (e ∙ sym (c .before .before .before .count-on .ensures))))
+returns c =
+    let start = c .before .before .before .before .before .before .before .before .before in
+    let ver = start .args .ver in
+    let table = start .args .table in
+    let info = start .args .info .now in
+    let take-analog-group = c .before .before .before .before .before .before .before .take-analog-group in
+    let taken2 = c .before .before .before .before .before .taken2 in
+    subst (Reads (given ver (members table) (took Kind.AnalogGroup (members table) (start .args .adr) (unhexes info))) table) (sym (c .not-read2 .ensures)) (all-differ noAnalog withAnalog (analogGroup .get (unhexes info)) (analogs-few (unhexes info)) (take-analog-group .result .taken) (take-analog-group .result .count) (take-analog-group .result .analogs) (take-analog-group .ensures) ver table (taken2 .given .0 .0) (taken2 .given .1) (λ e. c .before .if1 .taken (e ∙ sym (c .before .before .before .count-on .ensures))))
 
 deal-analogs-requires : tie.Need-deal-analogs-requires
 deal-analogs-requires c κs = search needs
@@ -44,11 +50,25 @@ was-read-requires c κs = search needs
 
 returns-2 : tie.Need-returns-2
 unfolding took
-returns-2 c = subst (Reads (given (c .before .before .before .before .before .before .args .ver) (members (c .before .before .before .before .before .before .args .table)) (took Kind.AnalogGroup (members (c .before .before .before .before .before .before .args .table)) (c .before .before .before .before .before .before .args .adr) (unhexes (c .before .before .before .before .before .before .args .info .now)))) (c .before .before .before .before .before .before .args .table)) (sym (c .not-read .ensures)) (all-refused noAnalog withAnalog (analogGroup .get (unhexes (c .before .before .before .before .before .before .args .info .now))) (analogs-few (unhexes (c .before .before .before .before .before .before .args .info .now))) (c .before .before .before .before .take-analog-group .result .taken) (c .before .before .before .before .take-analog-group .result .count) (c .before .before .before .before .take-analog-group .result .analogs) (c .before .before .before .before .take-analog-group .ensures) (c .before .before .before .before .before .before .args .ver) (c .before .before .before .before .before .before .args .table) (c .before .before .taken .given .0 .0) (c .before .before .taken .given .1))
+returns-2 c =
+    let start = c .before .before .before .before .before .before in
+    let ver = start .args .ver in
+    let table = start .args .table in
+    let info = start .args .info .now in
+    let take-analog-group = c .before .before .before .before .take-analog-group in
+    subst (Reads (given ver (members table) (took Kind.AnalogGroup (members table) (start .args .adr) (unhexes info))) table) (sym (c .not-read .ensures)) (all-refused noAnalog withAnalog (analogGroup .get (unhexes info)) (analogs-few (unhexes info)) (take-analog-group .result .taken) (take-analog-group .result .count) (take-analog-group .result .analogs) (take-analog-group .ensures) ver table (c .before .before .taken .given .0 .0) (c .before .before .taken .given .1))
 
 returns-3 : tie.Need-returns-3
 unfolding took
-returns-3 c = subst (Reads (given (c .before .before .before .before .before .before .before .before .before .before .before .args .ver) (members (c .before .before .before .before .before .before .before .before .before .before .before .args .table)) (took Kind.AnalogGroup (members (c .before .before .before .before .before .before .before .before .before .before .before .args .table)) (c .before .before .before .before .before .before .before .before .before .before .before .args .adr) (unhexes (c .before .before .before .before .before .before .before .before .before .before .before .args .info .now)))) (c .before .before .before .before .before .before .before .before .before .before .before .args .table)) (sym (c .was-read .ensures)) (all-read noAnalog withAnalog (analogGroup .get (unhexes (c .before .before .before .before .before .before .before .before .before .before .before .args .info .now))) (analogs-few (unhexes (c .before .before .before .before .before .before .before .before .before .before .before .args .info .now))) (c .before .before .before .before .before .before .before .before .before .take-analog-group .result .taken) (c .before .before .before .before .before .before .before .before .before .take-analog-group .result .count) (c .before .before .before .before .before .before .before .before .before .take-analog-group .result .analogs) (c .before .before .before .before .before .before .before .before .before .take-analog-group .ensures) (c .before .before .before .before .before .before .before .before .before .before .before .args .ver) (c .before .before .before .before .before .before .before .before .before .before .before .args .table) (c .before .before .before .before .before .before .before .taken2 .given .0 .0) (c .before .before .before .before .before .before .before .taken2 .given .1) (c .before .before .before .if1 .left ∙ c .before .before .before .before .before .count-on .ensures) (c .before .deal-analogs .result) (c .before .deal-analogs .ensures))
+returns-3 c =
+    let start = c .before .before .before .before .before .before .before .before .before .before .before in
+    let ver = start .args .ver in
+    let table = start .args .table in
+    let info = start .args .info .now in
+    let take-analog-group = c .before .before .before .before .before .before .before .before .before .take-analog-group in
+    let taken2 = c .before .before .before .before .before .before .before .taken2 in
+    let count-on = c .before .before .before .before .before .count-on in
+    subst (Reads (given ver (members table) (took Kind.AnalogGroup (members table) (start .args .adr) (unhexes info))) table) (sym (c .was-read .ensures)) (all-read noAnalog withAnalog (analogGroup .get (unhexes info)) (analogs-few (unhexes info)) (take-analog-group .result .taken) (take-analog-group .result .count) (take-analog-group .result .analogs) (take-analog-group .ensures) ver table (taken2 .given .0 .0) (taken2 .given .1) (c .before .before .before .if1 .left ∙ count-on .ensures) (c .before .deal-analogs .result) (c .before .deal-analogs .ensures))
 
 pub read-analog-group-spec : {M : Type 1} → statement M
 read-analog-group-spec =

@@ -6,8 +6,6 @@ use Rattle.reply.proofs.Taking.{not-read}
 use Rattle.reply.specs.Read.{took, given, Reads}
 use Rattle.command.specs.declared.Kind.{Kind}
 use Rattle.table.specs.Table.{members}
-use Rattle.infos.specs.Nothing.{nothing}
-use Rattle.record.specs.Texts.{maker}
 use Rattle.hex.specs.Hex.{unhexes}
 use Rattle.reply.proofs.read_data.Statement.{statement}
 use Rattle.reply.proofs.read_data.Tie as tie
@@ -79,40 +77,76 @@ not-read-requires : tie.Need-not-read-requires
 not-read-requires c κs = search needs
 
 returns : tie.Need-returns
-returns c = subst (λ (k : Kind). Reads (given (c .before .before .before .before .args .ver) (members (c .before .before .before .before .args .table)) (took k (members (c .before .before .before .before .args .table)) (c .before .before .before .before .args .adr) (unhexes (c .before .before .before .before .args .info .now)))) (c .before .before .before .before .args .table) (c .read-analog .result)) (sym (c .before .enum-told .given .1)) (c .read-analog .ensures)
+returns c =
+    let start = c .before .before .before .before in
+    let table = start .args .table in
+    subst (λ (k : Kind). Reads (given (start .args .ver) (members table) (took k (members table) (start .args .adr) (unhexes (start .args .info .now)))) table (c .read-analog .result)) (sym (c .before .enum-told .given .1)) (c .read-analog .ensures)
 
 returns-2 : tie.Need-returns-2
-returns-2 c = subst (λ (k : Kind). Reads (given (c .before .before .before .before .args .ver) (members (c .before .before .before .before .args .table)) (took k (members (c .before .before .before .before .args .table)) (c .before .before .before .before .args .adr) (unhexes (c .before .before .before .before .args .info .now)))) (c .before .before .before .before .args .table) (c .read-analog-group .result)) (sym (c .before .enum-told2 .given .1)) (c .read-analog-group .ensures)
+returns-2 c =
+    let start = c .before .before .before .before in
+    let table = start .args .table in
+    subst (λ (k : Kind). Reads (given (start .args .ver) (members table) (took k (members table) (start .args .adr) (unhexes (start .args .info .now)))) table (c .read-analog-group .result)) (sym (c .before .enum-told2 .given .1)) (c .read-analog-group .ensures)
 
 returns-3 : tie.Need-returns-3
-returns-3 c = subst (λ (k : Kind). Reads (given (c .before .before .before .before .args .ver) (members (c .before .before .before .before .args .table)) (took k (members (c .before .before .before .before .args .table)) (c .before .before .before .before .args .adr) (unhexes (c .before .before .before .before .args .info .now)))) (c .before .before .before .before .args .table) (c .read-alarm .result)) (sym (c .before .enum-told3 .given .1)) (c .read-alarm .ensures)
+returns-3 c =
+    let start = c .before .before .before .before in
+    let table = start .args .table in
+    subst (λ (k : Kind). Reads (given (start .args .ver) (members table) (took k (members table) (start .args .adr) (unhexes (start .args .info .now)))) table (c .read-alarm .result)) (sym (c .before .enum-told3 .given .1)) (c .read-alarm .ensures)
 
 returns-4 : tie.Need-returns-4
-returns-4 c = subst (λ (k : Kind). Reads (given (c .before .before .before .before .args .ver) (members (c .before .before .before .before .args .table)) (took k (members (c .before .before .before .before .args .table)) (c .before .before .before .before .args .adr) (unhexes (c .before .before .before .before .args .info .now)))) (c .before .before .before .before .args .table) (c .read-alarm-group .result)) (sym (c .before .enum-told4 .given .1)) (c .read-alarm-group .ensures)
+returns-4 c =
+    let start = c .before .before .before .before in
+    let table = start .args .table in
+    subst (λ (k : Kind). Reads (given (start .args .ver) (members table) (took k (members table) (start .args .adr) (unhexes (start .args .info .now)))) table (c .read-alarm-group .result)) (sym (c .before .enum-told4 .given .1)) (c .read-alarm-group .ensures)
 
 returns-5 : tie.Need-returns-5
 unfolding took
-returns-5 c = subst (λ (k : Kind). Reads (given (c .before .before .before .before .args .ver) (members (c .before .before .before .before .args .table)) (took k (members (c .before .before .before .before .args .table)) (c .before .before .before .before .args .adr) (unhexes (c .before .before .before .before .args .info .now)))) (c .before .before .before .before .args .table) (c .read-nothing .result)) (sym (c .before .enum-told5 .given .1)) (c .read-nothing .ensures)
+returns-5 c =
+    let start = c .before .before .before .before in
+    let table = start .args .table in
+    subst (λ (k : Kind). Reads (given (start .args .ver) (members table) (took k (members table) (start .args .adr) (unhexes (start .args .info .now)))) table (c .read-nothing .result)) (sym (c .before .enum-told5 .given .1)) (c .read-nothing .ensures)
 
 returns-6 : tie.Need-returns-6
-returns-6 c = subst (λ (k : Kind). Reads (given (c .before .before .before .before .args .ver) (members (c .before .before .before .before .args .table)) (took k (members (c .before .before .before .before .args .table)) (c .before .before .before .before .args .adr) (unhexes (c .before .before .before .before .args .info .now)))) (c .before .before .before .before .args .table) (c .read-maker .result)) (sym (c .before .enum-told6 .given .1)) (c .read-maker .ensures)
+returns-6 c =
+    let start = c .before .before .before .before in
+    let table = start .args .table in
+    subst (λ (k : Kind). Reads (given (start .args .ver) (members table) (took k (members table) (start .args .adr) (unhexes (start .args .info .now)))) table (c .read-maker .result)) (sym (c .before .enum-told6 .given .1)) (c .read-maker .ensures)
 
 returns-7 : tie.Need-returns-7
-returns-7 c = subst (λ (k : Kind). Reads (given (c .before .before .before .before .args .ver) (members (c .before .before .before .before .args .table)) (took k (members (c .before .before .before .before .args .table)) (c .before .before .before .before .args .adr) (unhexes (c .before .before .before .before .args .info .now)))) (c .before .before .before .before .args .table) (c .read-limits .result)) (sym (c .before .enum-told7 .given .1)) (c .read-limits .ensures)
+returns-7 c =
+    let start = c .before .before .before .before in
+    let table = start .args .table in
+    subst (λ (k : Kind). Reads (given (start .args .ver) (members table) (took k (members table) (start .args .adr) (unhexes (start .args .info .now)))) table (c .read-limits .result)) (sym (c .before .enum-told7 .given .1)) (c .read-limits .ensures)
 
 returns-8 : tie.Need-returns-8
-returns-8 c = subst (λ (k : Kind). Reads (given (c .before .before .before .before .args .ver) (members (c .before .before .before .before .args .table)) (took k (members (c .before .before .before .before .args .table)) (c .before .before .before .before .args .adr) (unhexes (c .before .before .before .before .args .info .now)))) (c .before .before .before .before .args .table) (c .read-serial .result)) (sym (c .before .enum-told8 .given .1)) (c .read-serial .ensures)
+returns-8 c =
+    let start = c .before .before .before .before in
+    let table = start .args .table in
+    subst (λ (k : Kind). Reads (given (start .args .ver) (members table) (took k (members table) (start .args .adr) (unhexes (start .args .info .now)))) table (c .read-serial .result)) (sym (c .before .enum-told8 .given .1)) (c .read-serial .ensures)
 
 returns-9 : tie.Need-returns-9
 unfolding took
-returns-9 c = subst (λ (k : Kind). Reads (given (c .before .before .before .before .args .ver) (members (c .before .before .before .before .args .table)) (took k (members (c .before .before .before .before .args .table)) (c .before .before .before .before .args .adr) (unhexes (c .before .before .before .before .args .info .now)))) (c .before .before .before .before .args .table) (c .read-nothing2 .result)) (sym (c .before .enum-told9 .given .1)) (c .read-nothing2 .ensures)
+returns-9 c =
+    let start = c .before .before .before .before in
+    let table = start .args .table in
+    subst (λ (k : Kind). Reads (given (start .args .ver) (members table) (took k (members table) (start .args .adr) (unhexes (start .args .info .now)))) table (c .read-nothing2 .result)) (sym (c .before .enum-told9 .given .1)) (c .read-nothing2 .ensures)
 
 returns-10 : tie.Need-returns-10
-returns-10 c = subst (λ (k : Kind). Reads (given (c .before .before .before .before .args .ver) (members (c .before .before .before .before .args .table)) (took k (members (c .before .before .before .before .args .table)) (c .before .before .before .before .args .adr) (unhexes (c .before .before .before .before .args .info .now)))) (c .before .before .before .before .args .table) (c .read-version .result)) (sym (c .before .enum-told10 .given .1)) (c .read-version .ensures)
+returns-10 c =
+    let start = c .before .before .before .before in
+    let table = start .args .table in
+    subst (λ (k : Kind). Reads (given (start .args .ver) (members table) (took k (members table) (start .args .adr) (unhexes (start .args .info .now)))) table (c .read-version .result)) (sym (c .before .enum-told10 .given .1)) (c .read-version .ensures)
 
 returns-11 : tie.Need-returns-11
 unfolding took
-returns-11 c = subst (λ (k : Kind). Reads (given (c .before .before .before .before .args .ver) (members (c .before .before .before .before .args .table)) (took k (members (c .before .before .before .before .args .table)) (c .before .before .before .before .args .adr) (unhexes (c .before .before .before .before .args .info .now)))) (c .before .before .before .before .args .table) (c .not-read .result)) (sym (c .before .enum-told11 .given .1)) (subst (Reads (given (c .before .before .before .before .args .ver) (members (c .before .before .before .before .args .table)) (took Kind.Unserved (members (c .before .before .before .before .args .table)) (c .before .before .before .before .args .adr) (unhexes (c .before .before .before .before .args .info .now)))) (c .before .before .before .before .args .table)) (sym (c .not-read .ensures)) (not-read (c .before .before .before .before .args .table) _ _ refl))
+returns-11 c =
+    let start = c .before .before .before .before in
+    let ver = start .args .ver in
+    let table = start .args .table in
+    let adr = start .args .adr in
+    let info = start .args .info .now in
+    subst (λ (k : Kind). Reads (given ver (members table) (took k (members table) adr (unhexes info))) table (c .not-read .result)) (sym (c .before .enum-told11 .given .1)) (subst (Reads (given ver (members table) (took Kind.Unserved (members table) adr (unhexes info))) table) (sym (c .not-read .ensures)) (not-read table _ _ refl))
 
 pub read-data-spec : {M : Type 1} → statement M
 read-data-spec =

@@ -1,15 +1,14 @@
 -- Refused, or the part is stored in its record.
 use mathlib.Core.Path.{sym, subst}
 use Prim.Native.Nat.{_-_}
-use lib.ListN.{take}
 use borrow.Author.Needs.{needs}
-use Rattle.reply.proofs.Taking.{not-read, one-refused, one-read}
+use Rattle.reply.proofs.Taking.{one-refused, one-read}
 use Rattle.reply.specs.Read.{took, given, Reads}
 use Rattle.command.specs.declared.Kind.{Kind}
 use Rattle.changes.specs.Changes.{replaced, withLimits}
 use Rattle.table.specs.Table.{members}
 use Rattle.infos.specs.Nothing.{noMaker}
-use Rattle.infos.specs.Took.{flagged, unflagged}
+use Rattle.infos.specs.Took.{unflagged}
 use Rattle.record.specs.Infos.{limitsInfo}
 use Rattle.readers.specs.Nothing.{noLimits}
 use Rattle.hex.specs.Hex.{unhexes}
@@ -36,11 +35,26 @@ was-read-requires c κs = search needs
 
 returns : tie.Need-returns
 unfolding took
-returns c = subst (Reads (given (c .before .before .before .before .before .before .args .ver) (members (c .before .before .before .before .before .before .args .table)) (took Kind.Limits (members (c .before .before .before .before .before .before .args .table)) (c .before .before .before .before .before .before .args .adr) (unhexes (c .before .before .before .before .before .before .args .info .now)))) (c .before .before .before .before .before .before .args .table)) (sym (c .not-read .ensures)) (one-refused noLimits unflagged (limitsInfo (c .before .before .before .before .before .before .args .adr) .get (unhexes (c .before .before .before .before .before .before .args .info .now))) (c .before .before .before .before .take-limits .result .taken) (c .before .before .before .before .take-limits .result .limits) (c .before .before .before .before .take-limits .ensures) (c .before .before .before .before .before .before .args .ver) (c .before .before .before .before .before .before .args .table) (λ a. (noMaker, replaced (c .before .before .before .before .before .before .args .adr) (withLimits a) (members (c .before .before .before .before .before .before .args .table)))) (c .before .before .taken .given .0 .0) (c .before .before .taken .given .1))
+returns c =
+    let start = c .before .before .before .before .before .before in
+    let ver = start .args .ver in
+    let table = start .args .table in
+    let adr = start .args .adr in
+    let info = start .args .info .now in
+    let take-limits = c .before .before .before .before .take-limits in
+    subst (Reads (given ver (members table) (took Kind.Limits (members table) adr (unhexes info))) table) (sym (c .not-read .ensures)) (one-refused noLimits unflagged (limitsInfo adr .get (unhexes info)) (take-limits .result .taken) (take-limits .result .limits) (take-limits .ensures) ver table (λ a. (noMaker, replaced adr (withLimits a) (members table))) (c .before .before .taken .given .0 .0) (c .before .before .taken .given .1))
 
 returns-2 : tie.Need-returns-2
 unfolding took
-returns-2 c = subst (Reads (given (c .before .before .before .before .before .before .before .before .args .ver) (members (c .before .before .before .before .before .before .before .before .args .table)) (took Kind.Limits (members (c .before .before .before .before .before .before .before .before .args .table)) (c .before .before .before .before .before .before .before .before .args .adr) (unhexes (c .before .before .before .before .before .before .before .before .args .info .now)))) (c .before .before .before .before .before .before .before .before .args .table)) (sym (c .was-read .ensures)) (one-read noLimits unflagged (limitsInfo (c .before .before .before .before .before .before .before .before .args .adr) .get (unhexes (c .before .before .before .before .before .before .before .before .args .info .now))) (c .before .before .before .before .before .before .take-limits .result .taken) (c .before .before .before .before .before .before .take-limits .result .limits) (c .before .before .before .before .before .before .take-limits .ensures) (c .before .before .before .before .before .before .before .before .args .ver) (c .before .before .before .before .before .before .before .before .args .table) (λ a. (noMaker, replaced (c .before .before .before .before .before .before .before .before .args .adr) (withLimits a) (members (c .before .before .before .before .before .before .before .before .args .table)))) (c .before .before .before .before .taken2 .given .0 .0) (c .before .before .before .before .taken2 .given .1) noMaker (c .before .with-limits .result) (λ i. (noMaker, c .before .with-limits .ensures .members-are i)) (c .before .with-limits .ensures .kept))
+returns-2 c =
+    let start = c .before .before .before .before .before .before .before .before in
+    let ver = start .args .ver in
+    let table = start .args .table in
+    let adr = start .args .adr in
+    let info = start .args .info .now in
+    let take-limits = c .before .before .before .before .before .before .take-limits in
+    let taken2 = c .before .before .before .before .taken2 in
+    subst (Reads (given ver (members table) (took Kind.Limits (members table) adr (unhexes info))) table) (sym (c .was-read .ensures)) (one-read noLimits unflagged (limitsInfo adr .get (unhexes info)) (take-limits .result .taken) (take-limits .result .limits) (take-limits .ensures) ver table (λ a. (noMaker, replaced adr (withLimits a) (members table))) (taken2 .given .0 .0) (taken2 .given .1) noMaker (c .before .with-limits .result) (λ i. (noMaker, c .before .with-limits .ensures .members-are i)) (c .before .with-limits .ensures .kept))
 
 pub read-limits-spec : {M : Type 1} → statement M
 read-limits-spec =

@@ -1,9 +1,8 @@
 -- Refused, or the 32 bytes are handed back.
 use mathlib.Core.Path.{refl, sym, subst}
 use Prim.Native.Nat.{_-_}
-use lib.ListN.{take}
 use borrow.Author.Needs.{needs}
-use Rattle.reply.proofs.Taking.{not-read, one-refused, one-read}
+use Rattle.reply.proofs.Taking.{one-refused, one-read}
 use Rattle.reply.specs.Read.{took, given, Reads}
 use Rattle.command.specs.declared.Kind.{Kind}
 use Rattle.table.specs.Table.{members}
@@ -28,11 +27,21 @@ enum-known-taken-2 c = search needs
 
 returns : tie.Need-returns
 unfolding took
-returns c = subst (Reads (given (c .before .before .before .before .before .before .args .ver) (members (c .before .before .before .before .before .before .args .table)) (took Kind.Maker (members (c .before .before .before .before .before .before .args .table)) (c .before .before .before .before .before .before .args .adr) (unhexes (c .before .before .before .before .before .before .args .info .now)))) (c .before .before .before .before .before .before .args .table)) (sym (c .not-read .ensures)) (one-refused noMaker bare (maker .get (unhexes (c .before .before .before .before .before .before .args .info .now))) (c .before .before .before .before .take-maker .result .taken) (c .before .before .before .before .take-maker .result .maker) (c .before .before .before .before .take-maker .ensures) (c .before .before .before .before .before .before .args .ver) (c .before .before .before .before .before .before .args .table) (λ a. (a, (members (c .before .before .before .before .before .before .args .table)))) (c .before .before .taken .given .0 .0) (c .before .before .taken .given .1))
+returns c =
+    let start = c .before .before .before .before .before .before in
+    let ver = start .args .ver in
+    let table = start .args .table in
+    let info = start .args .info .now in
+    let take-maker = c .before .before .before .before .take-maker in
+    subst (Reads (given ver (members table) (took Kind.Maker (members table) (start .args .adr) (unhexes info))) table) (sym (c .not-read .ensures)) (one-refused noMaker bare (maker .get (unhexes info)) (take-maker .result .taken) (take-maker .result .maker) (take-maker .ensures) ver table (λ a. (a, (members table))) (c .before .before .taken .given .0 .0) (c .before .before .taken .given .1))
 
 returns-2 : tie.Need-returns-2
 unfolding took
-returns-2 c = one-read noMaker bare (maker .get (unhexes (c .before .before .before .before .before .before .args .info .now))) (c .before .before .before .before .take-maker .result .taken) (c .before .before .before .before .take-maker .result .maker) (c .before .before .before .before .take-maker .ensures) (c .before .before .before .before .before .before .args .ver) (c .before .before .before .before .before .before .args .table) (λ a. (a, (members (c .before .before .before .before .before .before .args .table)))) (c .before .before .taken2 .given .0 .0) (c .before .before .taken2 .given .1) (c .before .before .before .before .take-maker .result .maker) (c .before .before .before .before .before .before .args .table) refl (refl, refl)
+returns-2 c =
+    let start = c .before .before .before .before .before .before in
+    let table = start .args .table in
+    let take-maker = c .before .before .before .before .take-maker in
+    one-read noMaker bare (maker .get (unhexes (start .args .info .now))) (take-maker .result .taken) (take-maker .result .maker) (take-maker .ensures) (start .args .ver) table (λ a. (a, (members table))) (c .before .before .taken2 .given .0 .0) (c .before .before .taken2 .given .1) (take-maker .result .maker) table refl (refl, refl)
 
 pub read-maker-spec : {M : Type 1} → statement M
 read-maker-spec =

@@ -1,10 +1,9 @@
 -- Refused, or nothing changes.
 use mathlib.Core.Path.{refl, sym, subst}
 use Prim.Native.Nat.{_-_}
-use lib.ListN.{take}
 use borrow.Author.Needs.{needs}
-use Rattle.reply.proofs.Taking.{not-read, one-refused, one-read}
-use Rattle.reply.specs.Read.{took, tookNothing, given, Reads}
+use Rattle.reply.proofs.Taking.{one-refused, one-read}
+use Rattle.reply.specs.Read.{tookNothing, given, Reads}
 use Rattle.table.specs.Table.{members}
 use Rattle.infos.specs.Nothing.{nothing, noMaker}
 use Rattle.infos.specs.Took.{bare}
@@ -28,10 +27,22 @@ was-read-requires : tie.Need-was-read-requires
 was-read-requires c κs = search needs
 
 returns : tie.Need-returns
-returns c = subst (Reads (given (c .before .before .before .before .before .before .args .ver) (members (c .before .before .before .before .before .before .args .table)) (tookNothing (members (c .before .before .before .before .before .before .args .table)) (unhexes (c .before .before .before .before .before .before .args .info .now)))) (c .before .before .before .before .before .before .args .table)) (sym (c .not-read .ensures)) (one-refused tt bare (nothing .get (unhexes (c .before .before .before .before .before .before .args .info .now))) (c .before .before .before .before .take-nothing .result) tt (c .before .before .before .before .take-nothing .ensures) (c .before .before .before .before .before .before .args .ver) (c .before .before .before .before .before .before .args .table) (λ a. (noMaker, (members (c .before .before .before .before .before .before .args .table)))) (c .before .before .taken .given .0 .0) (c .before .before .taken .given .1))
+returns c =
+    let start = c .before .before .before .before .before .before in
+    let ver = start .args .ver in
+    let table = start .args .table in
+    let info = start .args .info .now in
+    let take-nothing = c .before .before .before .before .take-nothing in
+    subst (Reads (given ver (members table) (tookNothing (members table) (unhexes info))) table) (sym (c .not-read .ensures)) (one-refused tt bare (nothing .get (unhexes info)) (take-nothing .result) tt (take-nothing .ensures) ver table (λ a. (noMaker, (members table))) (c .before .before .taken .given .0 .0) (c .before .before .taken .given .1))
 
 returns-2 : tie.Need-returns-2
-returns-2 c = subst (Reads (given (c .before .before .before .before .before .before .args .ver) (members (c .before .before .before .before .before .before .args .table)) (tookNothing (members (c .before .before .before .before .before .before .args .table)) (unhexes (c .before .before .before .before .before .before .args .info .now)))) (c .before .before .before .before .before .before .args .table)) (sym (c .was-read .ensures)) (one-read tt bare (nothing .get (unhexes (c .before .before .before .before .before .before .args .info .now))) (c .before .before .before .before .take-nothing .result) tt (c .before .before .before .before .take-nothing .ensures) (c .before .before .before .before .before .before .args .ver) (c .before .before .before .before .before .before .args .table) (λ a. (noMaker, (members (c .before .before .before .before .before .before .args .table)))) (c .before .before .taken2 .given .0 .0) (c .before .before .taken2 .given .1) noMaker (c .before .before .before .before .before .before .args .table) refl (refl, refl))
+returns-2 c =
+    let start = c .before .before .before .before .before .before in
+    let ver = start .args .ver in
+    let table = start .args .table in
+    let info = start .args .info .now in
+    let take-nothing = c .before .before .before .before .take-nothing in
+    subst (Reads (given ver (members table) (tookNothing (members table) (unhexes info))) table) (sym (c .was-read .ensures)) (one-read tt bare (nothing .get (unhexes info)) (take-nothing .result) tt (take-nothing .ensures) ver table (λ a. (noMaker, (members table))) (c .before .before .taken2 .given .0 .0) (c .before .before .taken2 .given .1) noMaker table refl (refl, refl))
 
 pub read-nothing-spec : {M : Type 1} → statement M
 read-nothing-spec =

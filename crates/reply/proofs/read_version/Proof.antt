@@ -1,15 +1,14 @@
 -- Refused, or the part is stored in its record.
 use mathlib.Core.Path.{sym, subst}
 use Prim.Native.Nat.{_-_}
-use lib.ListN.{take}
 use borrow.Author.Needs.{needs}
-use Rattle.reply.proofs.Taking.{not-read, one-refused, one-read}
+use Rattle.reply.proofs.Taking.{one-refused, one-read}
 use Rattle.reply.specs.Read.{took, given, Reads}
 use Rattle.command.specs.declared.Kind.{Kind}
 use Rattle.changes.specs.Changes.{replaced, withVersion}
 use Rattle.table.specs.Table.{members}
 use Rattle.infos.specs.Nothing.{noMaker}
-use Rattle.infos.specs.Took.{flagged, unflagged}
+use Rattle.infos.specs.Took.{unflagged}
 use Rattle.record.specs.Infos.{versionInfo}
 use Rattle.readers.specs.Nothing.{noVersion}
 use Rattle.hex.specs.Hex.{unhexes}
@@ -36,11 +35,26 @@ was-read-requires c κs = search needs
 
 returns : tie.Need-returns
 unfolding took
-returns c = subst (Reads (given (c .before .before .before .before .before .before .args .ver) (members (c .before .before .before .before .before .before .args .table)) (took Kind.Version (members (c .before .before .before .before .before .before .args .table)) (c .before .before .before .before .before .before .args .adr) (unhexes (c .before .before .before .before .before .before .args .info .now)))) (c .before .before .before .before .before .before .args .table)) (sym (c .not-read .ensures)) (one-refused noVersion unflagged (versionInfo (c .before .before .before .before .before .before .args .adr) .get (unhexes (c .before .before .before .before .before .before .args .info .now))) (c .before .before .before .before .take-version .result .taken) (c .before .before .before .before .take-version .result .version) (c .before .before .before .before .take-version .ensures) (c .before .before .before .before .before .before .args .ver) (c .before .before .before .before .before .before .args .table) (λ a. (noMaker, replaced (c .before .before .before .before .before .before .args .adr) (withVersion a) (members (c .before .before .before .before .before .before .args .table)))) (c .before .before .taken .given .0 .0) (c .before .before .taken .given .1))
+returns c =
+    let start = c .before .before .before .before .before .before in
+    let ver = start .args .ver in
+    let table = start .args .table in
+    let adr = start .args .adr in
+    let info = start .args .info .now in
+    let take-version = c .before .before .before .before .take-version in
+    subst (Reads (given ver (members table) (took Kind.Version (members table) adr (unhexes info))) table) (sym (c .not-read .ensures)) (one-refused noVersion unflagged (versionInfo adr .get (unhexes info)) (take-version .result .taken) (take-version .result .version) (take-version .ensures) ver table (λ a. (noMaker, replaced adr (withVersion a) (members table))) (c .before .before .taken .given .0 .0) (c .before .before .taken .given .1))
 
 returns-2 : tie.Need-returns-2
 unfolding took
-returns-2 c = subst (Reads (given (c .before .before .before .before .before .before .before .before .args .ver) (members (c .before .before .before .before .before .before .before .before .args .table)) (took Kind.Version (members (c .before .before .before .before .before .before .before .before .args .table)) (c .before .before .before .before .before .before .before .before .args .adr) (unhexes (c .before .before .before .before .before .before .before .before .args .info .now)))) (c .before .before .before .before .before .before .before .before .args .table)) (sym (c .was-read .ensures)) (one-read noVersion unflagged (versionInfo (c .before .before .before .before .before .before .before .before .args .adr) .get (unhexes (c .before .before .before .before .before .before .before .before .args .info .now))) (c .before .before .before .before .before .before .take-version .result .taken) (c .before .before .before .before .before .before .take-version .result .version) (c .before .before .before .before .before .before .take-version .ensures) (c .before .before .before .before .before .before .before .before .args .ver) (c .before .before .before .before .before .before .before .before .args .table) (λ a. (noMaker, replaced (c .before .before .before .before .before .before .before .before .args .adr) (withVersion a) (members (c .before .before .before .before .before .before .before .before .args .table)))) (c .before .before .before .before .taken2 .given .0 .0) (c .before .before .before .before .taken2 .given .1) noMaker (c .before .with-version .result) (λ i. (noMaker, c .before .with-version .ensures .members-are i)) (c .before .with-version .ensures .kept))
+returns-2 c =
+    let start = c .before .before .before .before .before .before .before .before in
+    let ver = start .args .ver in
+    let table = start .args .table in
+    let adr = start .args .adr in
+    let info = start .args .info .now in
+    let take-version = c .before .before .before .before .before .before .take-version in
+    let taken2 = c .before .before .before .before .taken2 in
+    subst (Reads (given ver (members table) (took Kind.Version (members table) adr (unhexes info))) table) (sym (c .was-read .ensures)) (one-read noVersion unflagged (versionInfo adr .get (unhexes info)) (take-version .result .taken) (take-version .result .version) (take-version .ensures) ver table (λ a. (noMaker, replaced adr (withVersion a) (members table))) (taken2 .given .0 .0) (taken2 .given .1) noMaker (c .before .with-version .result) (λ i. (noMaker, c .before .with-version .ensures .members-are i)) (c .before .with-version .ensures .kept))
 
 pub read-version-spec : {M : Type 1} → statement M
 read-version-spec =

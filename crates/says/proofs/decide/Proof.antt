@@ -36,8 +36,14 @@ by-number-requires c κs = search needs
 
 returns : tie.Need-returns
 returns c =
+    let start = c .before .before .before .before .before .before .before .before .before .before .before .before .before .before .before in
+    let member-at = c .before .before .before .before .before .before .before .before .before .before .before .before .before .member-at in
+    let kind-of = c .before .before .before .before .before .before .before .before .before .before .before .before .kind-of in
+    let terms-of = c .before .before .before .before .before .before .before .before .before .before .before .terms-of in
+    let any-fault = c .before .before .before .before .before .before .before .before .before .any-fault in
+    let is-master = c .before .before .before .before .before .before .before .before .is-master in
     c .by-number .ensures
-    ∙ in-order (c .before .before .before .before .before .before .before .before .before .before .before .before .before .before .before .args .station) (members (c .before .before .before .before .before .before .before .before .before .before .before .before .before .before .before .args .table)) (wordsOf (c .before .before .before .before .before .before .before .before .before .before .before .before .before .before .before .args .heard)) _ (c .before .before .before .before .before .before .before .before .before .before .before .before .before .member-at .ensures) _ (c .before .before .before .before .before .before .before .before .before .before .before .before .kind-of .ensures) _ (c .before .before .before .before .before .before .before .before .before .before .before .terms-of .ensures) _ (c .before .before .before .before .before .before .before .before .before .any-fault .ensures) _ (c .before .before .before .before .before .before .before .before .is-master .ensures) _ (c .before .before .number-of .ensures) _ (c .before .before .before .before .by-command .ensures) _ (c .before .before .before .by-header .ensures)
+    ∙ in-order (start .args .station) (members (start .args .table)) (wordsOf (start .args .heard)) _ (member-at .ensures) _ (kind-of .ensures) _ (terms-of .ensures) _ (any-fault .ensures) _ (is-master .ensures) _ (c .before .before .number-of .ensures) _ (c .before .before .before .before .by-command .ensures) _ (c .before .before .before .by-header .ensures)
 
 pub decide-spec : {M : Type 1} → statement M
 decide-spec =

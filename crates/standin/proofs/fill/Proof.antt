@@ -1,7 +1,6 @@
 -- Each arm writes the data of its command.
 use mathlib.Core.Path.{refl, sym, subst}
 use native.Mathlib.Omega.{arith}
-use lib.ListN.{length}
 use mir.Syntax.{w8}
 use mir.Val.{Fits}
 use borrow.Author.Needs.{needs}
@@ -55,7 +54,9 @@ slice-aggregate-put-all : tie.Need-slice-aggregate-put-all
 slice-aggregate-put-all c = search needs
 
 put-all-requires : tie.Need-put-all-requires
-put-all-requires c κs = record { fits = omega (arith, c .before .before .before .before .before .before .before .pre .2, maker-length (c .before .before .before .before .before .before .before .args .station) _ (c .before .before .before .before .before .before .before .good .1 .0)) }
+put-all-requires c κs =
+    let start = c .before .before .before .before .before .before .before in
+    record { fits = omega (arith, start .pre .2, maker-length (start .args .station) _ (start .good .1 .0)) }
 
 enum-told-7 : tie.Need-enum-told-7
 enum-told-7 c = search needs
@@ -86,75 +87,129 @@ same-length c = search needs
 
 returns : tie.Need-returns
 returns c =
-    let small : Fits w8 (c .before .before .before .before .before .before .before .before .args .adr) = search needs in
-    subst (λ (k : Kind). Writes (filled (infoBy k (c .before .before .before .before .before .before .before .before .args .station) (members (c .before .before .before .before .before .before .before .before .args .table)) (c .before .before .before .before .before .before .before .before .args .adr)) (c .before .before .before .before .before .before .before .before .args .info .now)) (c .before .before .write-analog .result) (c .before .before .write-analog .last .0)) (sym (c .before .before .before .before .enum-told .given .1)) (analog-filled (c .before .before .before .before .before .before .before .before .args .station) (members (c .before .before .before .before .before .before .before .before .args .table)) (c .before .before .before .before .before .before .before .before .args .adr) (keeps-parts (c .before .before .before .before .before .before .before .before .args .table) (c .before .before .before .before .before .before .before .before .pre .0) .1) (c .before .before .before .before .before .before .before .before .pre .1) (small .fits) (c .before .before .before .before .before .before .before .before .args .info .now) (c .before .before .before .before .before .before .before .before .pre .2) (c .before .before .before .before .before .before .member-at .result) (c .before .before .before .before .before .before .member-at .ensures) (c .before .before .write-analog .result) (c .before .before .write-analog .last .0) (c .before .before .write-analog .ensures))
+    let start = c .before .before .before .before .before .before .before .before in
+    let adr = start .args .adr in
+    let station = start .args .station in
+    let table = start .args .table in
+    let info = start .args .info .now in
+    let member-at = c .before .before .before .before .before .before .member-at in
+    let small : Fits w8 adr = search needs in
+    subst (λ (k : Kind). Writes (filled (infoBy k station (members table) adr) info) (c .before .before .write-analog .result) (c .before .before .write-analog .last .0)) (sym (c .before .before .before .before .enum-told .given .1)) (analog-filled station (members table) adr (keeps-parts table (start .pre .0) .1) (start .pre .1) (small .fits) info (start .pre .2) (member-at .result) (member-at .ensures) (c .before .before .write-analog .result) (c .before .before .write-analog .last .0) (c .before .before .write-analog .ensures))
 
 same-length-2 : tie.Need-same-length-2
 same-length-2 c = search needs
 
 returns-2 : tie.Need-returns-2
 returns-2 c =
-    let small : Fits w8 (c .before .before .before .before .before .before .before .before .args .adr) = search needs in
-    subst (λ (k : Kind). Writes (filled (infoBy k (c .before .before .before .before .before .before .before .before .args .station) (members (c .before .before .before .before .before .before .before .before .args .table)) (c .before .before .before .before .before .before .before .before .args .adr)) (c .before .before .before .before .before .before .before .before .args .info .now)) (c .before .before .write-analog-group .result) (c .before .before .write-analog-group .last .0)) (sym (c .before .before .before .before .enum-told2 .given .1)) (analogs-filled (c .before .before .before .before .before .before .before .before .args .station) (members (c .before .before .before .before .before .before .before .before .args .table)) (c .before .before .before .before .before .before .before .before .args .adr) (keeps-parts (c .before .before .before .before .before .before .before .before .args .table) (c .before .before .before .before .before .before .before .before .pre .0) .1) (c .before .before .before .before .before .before .before .before .pre .1) (small .fits) (c .before .before .before .before .before .before .before .before .args .info .now) (c .before .before .before .before .before .before .before .before .pre .2) (keeps (c .before .before .before .before .before .before .before .before .args .table)) (c .before .before .before .before .before .before .before .before .pre .0) (c .before .before .write-analog-group .result) (c .before .before .write-analog-group .last .0) (c .before .before .write-analog-group .ensures))
+    let start = c .before .before .before .before .before .before .before .before in
+    let adr = start .args .adr in
+    let station = start .args .station in
+    let table = start .args .table in
+    let info = start .args .info .now in
+    let small : Fits w8 adr = search needs in
+    subst (λ (k : Kind). Writes (filled (infoBy k station (members table) adr) info) (c .before .before .write-analog-group .result) (c .before .before .write-analog-group .last .0)) (sym (c .before .before .before .before .enum-told2 .given .1)) (analogs-filled station (members table) adr (keeps-parts table (start .pre .0) .1) (start .pre .1) (small .fits) info (start .pre .2) (keeps table) (start .pre .0) (c .before .before .write-analog-group .result) (c .before .before .write-analog-group .last .0) (c .before .before .write-analog-group .ensures))
 
 same-length-3 : tie.Need-same-length-3
 same-length-3 c = search needs
 
 returns-3 : tie.Need-returns-3
 returns-3 c =
-    let small : Fits w8 (c .before .before .before .before .before .before .before .before .args .adr) = search needs in
-    subst (λ (k : Kind). Writes (filled (infoBy k (c .before .before .before .before .before .before .before .before .args .station) (members (c .before .before .before .before .before .before .before .before .args .table)) (c .before .before .before .before .before .before .before .before .args .adr)) (c .before .before .before .before .before .before .before .before .args .info .now)) (c .before .before .write-alarm .result) (c .before .before .write-alarm .last .0)) (sym (c .before .before .before .before .enum-told3 .given .1)) (alarm-filled (c .before .before .before .before .before .before .before .before .args .station) (members (c .before .before .before .before .before .before .before .before .args .table)) (c .before .before .before .before .before .before .before .before .args .adr) (keeps-parts (c .before .before .before .before .before .before .before .before .args .table) (c .before .before .before .before .before .before .before .before .pre .0) .1) (c .before .before .before .before .before .before .before .before .pre .1) (small .fits) (c .before .before .before .before .before .before .before .before .args .info .now) (c .before .before .before .before .before .before .before .before .pre .2) (c .before .before .before .before .before .before .member-at .result) (c .before .before .before .before .before .before .member-at .ensures) (c .before .before .write-alarm .result) (c .before .before .write-alarm .last .0) (c .before .before .write-alarm .ensures))
+    let start = c .before .before .before .before .before .before .before .before in
+    let adr = start .args .adr in
+    let station = start .args .station in
+    let table = start .args .table in
+    let info = start .args .info .now in
+    let member-at = c .before .before .before .before .before .before .member-at in
+    let small : Fits w8 adr = search needs in
+    subst (λ (k : Kind). Writes (filled (infoBy k station (members table) adr) info) (c .before .before .write-alarm .result) (c .before .before .write-alarm .last .0)) (sym (c .before .before .before .before .enum-told3 .given .1)) (alarm-filled station (members table) adr (keeps-parts table (start .pre .0) .1) (start .pre .1) (small .fits) info (start .pre .2) (member-at .result) (member-at .ensures) (c .before .before .write-alarm .result) (c .before .before .write-alarm .last .0) (c .before .before .write-alarm .ensures))
 
 same-length-4 : tie.Need-same-length-4
 same-length-4 c = search needs
 
 returns-4 : tie.Need-returns-4
 returns-4 c =
-    let small : Fits w8 (c .before .before .before .before .before .before .before .before .args .adr) = search needs in
-    subst (λ (k : Kind). Writes (filled (infoBy k (c .before .before .before .before .before .before .before .before .args .station) (members (c .before .before .before .before .before .before .before .before .args .table)) (c .before .before .before .before .before .before .before .before .args .adr)) (c .before .before .before .before .before .before .before .before .args .info .now)) (c .before .before .write-alarm-group .result) (c .before .before .write-alarm-group .last .0)) (sym (c .before .before .before .before .enum-told4 .given .1)) (alarms-filled (c .before .before .before .before .before .before .before .before .args .station) (members (c .before .before .before .before .before .before .before .before .args .table)) (c .before .before .before .before .before .before .before .before .args .adr) (keeps-parts (c .before .before .before .before .before .before .before .before .args .table) (c .before .before .before .before .before .before .before .before .pre .0) .1) (c .before .before .before .before .before .before .before .before .pre .1) (small .fits) (c .before .before .before .before .before .before .before .before .args .info .now) (c .before .before .before .before .before .before .before .before .pre .2) (keeps (c .before .before .before .before .before .before .before .before .args .table)) (c .before .before .before .before .before .before .before .before .pre .0) (c .before .before .write-alarm-group .result) (c .before .before .write-alarm-group .last .0) (c .before .before .write-alarm-group .ensures))
+    let start = c .before .before .before .before .before .before .before .before in
+    let adr = start .args .adr in
+    let station = start .args .station in
+    let table = start .args .table in
+    let info = start .args .info .now in
+    let small : Fits w8 adr = search needs in
+    subst (λ (k : Kind). Writes (filled (infoBy k station (members table) adr) info) (c .before .before .write-alarm-group .result) (c .before .before .write-alarm-group .last .0)) (sym (c .before .before .before .before .enum-told4 .given .1)) (alarms-filled station (members table) adr (keeps-parts table (start .pre .0) .1) (start .pre .1) (small .fits) info (start .pre .2) (keeps table) (start .pre .0) (c .before .before .write-alarm-group .result) (c .before .before .write-alarm-group .last .0) (c .before .before .write-alarm-group .ensures))
 
 returns-5 : tie.Need-returns-5
 unfolding infoBy
-returns-5 c = subst (λ (k : Kind). Writes (filled (infoBy k (c .before .before .before .before .args .station) (members (c .before .before .before .before .args .table)) (c .before .before .before .before .args .adr)) (c .before .before .before .before .args .info .now)) (Written.Wrote 0) (c .before .before .before .before .args .info .now)) (sym (c .enum-told5 .given .1)) refl
+returns-5 c =
+    let start = c .before .before .before .before in
+    let info = start .args .info .now in
+    subst (λ (k : Kind). Writes (filled (infoBy k (start .args .station) (members (start .args .table)) (start .args .adr)) info) (Written.Wrote 0) info) (sym (c .enum-told5 .given .1)) refl
 
 same-length-5 : tie.Need-same-length-5
 same-length-5 c = search needs
 
 returns-6 : tie.Need-returns-6
 unfolding infoBy
-returns-6 c = subst (λ (k : Kind). Writes (filled (infoBy k (c .before .before .before .before .before .before .before .before .before .before .args .station) (members (c .before .before .before .before .before .before .before .before .before .before .args .table)) (c .before .before .before .before .before .before .before .before .before .before .args .adr)) (c .before .before .before .before .before .before .before .before .before .before .args .info .now)) (Written.Wrote (c .before .before .put-all .result)) (c .before .before .put-all .last .0)) (sym (c .before .before .before .before .before .before .enum-told6 .given .1)) (put-filled (c .before .before .before .before .before .before .before .before .before .before .args .info .now) (c .before .before .before .before .before .before .before .before .before .before .args .station .maker) (c .before .before .put-all .last .0) (c .before .before .put-all .result) (c .before .before .put-all .ensures))
+returns-6 c =
+    let start = c .before .before .before .before .before .before .before .before .before .before in
+    let station = start .args .station in
+    let info = start .args .info .now in
+    let enum-told6 = c .before .before .before .before .before .before .enum-told6 in
+    subst (λ (k : Kind). Writes (filled (infoBy k station (members (start .args .table)) (start .args .adr)) info) (Written.Wrote (c .before .before .put-all .result)) (c .before .before .put-all .last .0)) (sym (enum-told6 .given .1)) (put-filled info (station .maker) (c .before .before .put-all .last .0) (c .before .before .put-all .result) (c .before .before .put-all .ensures))
 
 same-length-6 : tie.Need-same-length-6
 same-length-6 c = search needs
 
 returns-7 : tie.Need-returns-7
 returns-7 c =
-    let small : Fits w8 (c .before .before .before .before .before .before .before .before .args .adr) = search needs in
-    subst (λ (k : Kind). Writes (filled (infoBy k (c .before .before .before .before .before .before .before .before .args .station) (members (c .before .before .before .before .before .before .before .before .args .table)) (c .before .before .before .before .before .before .before .before .args .adr)) (c .before .before .before .before .before .before .before .before .args .info .now)) (c .before .before .write-limits .result) (c .before .before .write-limits .last .0)) (sym (c .before .before .before .before .enum-told7 .given .1)) (limits-filled (c .before .before .before .before .before .before .before .before .args .station) (members (c .before .before .before .before .before .before .before .before .args .table)) (c .before .before .before .before .before .before .before .before .args .adr) (keeps-parts (c .before .before .before .before .before .before .before .before .args .table) (c .before .before .before .before .before .before .before .before .pre .0) .1) (c .before .before .before .before .before .before .before .before .pre .1) (small .fits) (c .before .before .before .before .before .before .before .before .args .info .now) (c .before .before .before .before .before .before .before .before .pre .2) (c .before .before .before .before .before .before .member-at .result) (c .before .before .before .before .before .before .member-at .ensures) (c .before .before .write-limits .result) (c .before .before .write-limits .last .0) (c .before .before .write-limits .ensures))
+    let start = c .before .before .before .before .before .before .before .before in
+    let adr = start .args .adr in
+    let station = start .args .station in
+    let table = start .args .table in
+    let info = start .args .info .now in
+    let member-at = c .before .before .before .before .before .before .member-at in
+    let small : Fits w8 adr = search needs in
+    subst (λ (k : Kind). Writes (filled (infoBy k station (members table) adr) info) (c .before .before .write-limits .result) (c .before .before .write-limits .last .0)) (sym (c .before .before .before .before .enum-told7 .given .1)) (limits-filled station (members table) adr (keeps-parts table (start .pre .0) .1) (start .pre .1) (small .fits) info (start .pre .2) (member-at .result) (member-at .ensures) (c .before .before .write-limits .result) (c .before .before .write-limits .last .0) (c .before .before .write-limits .ensures))
 
 same-length-7 : tie.Need-same-length-7
 same-length-7 c = search needs
 
 returns-8 : tie.Need-returns-8
 returns-8 c =
-    let small : Fits w8 (c .before .before .before .before .before .before .before .before .args .adr) = search needs in
-    subst (λ (k : Kind). Writes (filled (infoBy k (c .before .before .before .before .before .before .before .before .args .station) (members (c .before .before .before .before .before .before .before .before .args .table)) (c .before .before .before .before .before .before .before .before .args .adr)) (c .before .before .before .before .before .before .before .before .args .info .now)) (c .before .before .write-serial .result) (c .before .before .write-serial .last .0)) (sym (c .before .before .before .before .enum-told8 .given .1)) (serial-filled (c .before .before .before .before .before .before .before .before .args .station) (members (c .before .before .before .before .before .before .before .before .args .table)) (c .before .before .before .before .before .before .before .before .args .adr) (keeps-parts (c .before .before .before .before .before .before .before .before .args .table) (c .before .before .before .before .before .before .before .before .pre .0) .1) (c .before .before .before .before .before .before .before .before .pre .1) (small .fits) (c .before .before .before .before .before .before .before .before .args .info .now) (c .before .before .before .before .before .before .before .before .pre .2) (c .before .before .before .before .before .before .member-at .result) (c .before .before .before .before .before .before .member-at .ensures) (c .before .before .write-serial .result) (c .before .before .write-serial .last .0) (c .before .before .write-serial .ensures))
+    let start = c .before .before .before .before .before .before .before .before in
+    let adr = start .args .adr in
+    let station = start .args .station in
+    let table = start .args .table in
+    let info = start .args .info .now in
+    let member-at = c .before .before .before .before .before .before .member-at in
+    let small : Fits w8 adr = search needs in
+    subst (λ (k : Kind). Writes (filled (infoBy k station (members table) adr) info) (c .before .before .write-serial .result) (c .before .before .write-serial .last .0)) (sym (c .before .before .before .before .enum-told8 .given .1)) (serial-filled station (members table) adr (keeps-parts table (start .pre .0) .1) (start .pre .1) (small .fits) info (start .pre .2) (member-at .result) (member-at .ensures) (c .before .before .write-serial .result) (c .before .before .write-serial .last .0) (c .before .before .write-serial .ensures))
 
 returns-9 : tie.Need-returns-9
 unfolding infoBy
-returns-9 c = subst (λ (k : Kind). Writes (filled (infoBy k (c .before .before .before .before .args .station) (members (c .before .before .before .before .args .table)) (c .before .before .before .before .args .adr)) (c .before .before .before .before .args .info .now)) (Written.Wrote 0) (c .before .before .before .before .args .info .now)) (sym (c .enum-told9 .given .1)) refl
+returns-9 c =
+    let start = c .before .before .before .before in
+    let info = start .args .info .now in
+    subst (λ (k : Kind). Writes (filled (infoBy k (start .args .station) (members (start .args .table)) (start .args .adr)) info) (Written.Wrote 0) info) (sym (c .enum-told9 .given .1)) refl
 
 same-length-8 : tie.Need-same-length-8
 same-length-8 c = search needs
 
 returns-10 : tie.Need-returns-10
 returns-10 c =
-    let small : Fits w8 (c .before .before .before .before .before .before .before .before .args .adr) = search needs in
-    subst (λ (k : Kind). Writes (filled (infoBy k (c .before .before .before .before .before .before .before .before .args .station) (members (c .before .before .before .before .before .before .before .before .args .table)) (c .before .before .before .before .before .before .before .before .args .adr)) (c .before .before .before .before .before .before .before .before .args .info .now)) (c .before .before .write-version .result) (c .before .before .write-version .last .0)) (sym (c .before .before .before .before .enum-told10 .given .1)) (version-filled (c .before .before .before .before .before .before .before .before .args .station) (members (c .before .before .before .before .before .before .before .before .args .table)) (c .before .before .before .before .before .before .before .before .args .adr) (keeps-parts (c .before .before .before .before .before .before .before .before .args .table) (c .before .before .before .before .before .before .before .before .pre .0) .1) (c .before .before .before .before .before .before .before .before .pre .1) (small .fits) (c .before .before .before .before .before .before .before .before .args .info .now) (c .before .before .before .before .before .before .before .before .pre .2) (c .before .before .before .before .before .before .member-at .result) (c .before .before .before .before .before .before .member-at .ensures) (c .before .before .write-version .result) (c .before .before .write-version .last .0) (c .before .before .write-version .ensures))
+    let start = c .before .before .before .before .before .before .before .before in
+    let adr = start .args .adr in
+    let station = start .args .station in
+    let table = start .args .table in
+    let info = start .args .info .now in
+    let member-at = c .before .before .before .before .before .before .member-at in
+    let small : Fits w8 adr = search needs in
+    subst (λ (k : Kind). Writes (filled (infoBy k station (members table) adr) info) (c .before .before .write-version .result) (c .before .before .write-version .last .0)) (sym (c .before .before .before .before .enum-told10 .given .1)) (version-filled station (members table) adr (keeps-parts table (start .pre .0) .1) (start .pre .1) (small .fits) info (start .pre .2) (member-at .result) (member-at .ensures) (c .before .before .write-version .result) (c .before .before .write-version .last .0) (c .before .before .write-version .ensures))
 
 returns-11 : tie.Need-returns-11
 unfolding infoBy
-returns-11 c = subst (λ (k : Kind). Writes (filled (infoBy k (c .before .before .before .before .args .station) (members (c .before .before .before .before .args .table)) (c .before .before .before .before .args .adr)) (c .before .before .before .before .args .info .now)) (Written.Wrote 0) (c .before .before .before .before .args .info .now)) (sym (c .enum-told11 .given .1)) refl
+returns-11 c =
+    let start = c .before .before .before .before in
+    let info = start .args .info .now in
+    subst (λ (k : Kind). Writes (filled (infoBy k (start .args .station) (members (start .args .table)) (start .args .adr)) info) (Written.Wrote 0) info) (sym (c .enum-told11 .given .1)) refl
 
 pub fill-spec : {M : Type 1} → statement M
 fill-spec =

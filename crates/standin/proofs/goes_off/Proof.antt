@@ -45,47 +45,69 @@ enum-told-11 c = search needs
 
 returns : tie.Need-returns
 unfolding offBy
-returns c = sym (ap (λ (k : Kind). offBy k (members (c .before .before .args .table)) (c .before .before .args .adr)) (c .enum-told .given .1))
+returns c =
+    let start = c .before .before in
+    sym (ap (λ (k : Kind). offBy k (members (start .args .table)) (start .args .adr)) (c .enum-told .given .1))
 
 returns-2 : tie.Need-returns-2
 unfolding offBy
-returns-2 c = sym (ap (λ (k : Kind). offBy k (members (c .before .before .args .table)) (c .before .before .args .adr)) (c .enum-told2 .given .1))
+returns-2 c =
+    let start = c .before .before in
+    sym (ap (λ (k : Kind). offBy k (members (start .args .table)) (start .args .adr)) (c .enum-told2 .given .1))
 
 returns-3 : tie.Need-returns-3
 unfolding offBy
-returns-3 c = sym (ap (λ (k : Kind). offBy k (members (c .before .before .args .table)) (c .before .before .args .adr)) (c .enum-told3 .given .1))
+returns-3 c =
+    let start = c .before .before in
+    sym (ap (λ (k : Kind). offBy k (members (start .args .table)) (start .args .adr)) (c .enum-told3 .given .1))
 
 returns-4 : tie.Need-returns-4
 unfolding offBy
-returns-4 c = sym (ap (λ (k : Kind). offBy k (members (c .before .before .args .table)) (c .before .before .args .adr)) (c .enum-told4 .given .1))
+returns-4 c =
+    let start = c .before .before in
+    sym (ap (λ (k : Kind). offBy k (members (start .args .table)) (start .args .adr)) (c .enum-told4 .given .1))
 
 returns-5 : tie.Need-returns-5
 unfolding offBy
-returns-5 c = sym (ap (λ (k : Kind). offBy k (members (c .before .before .args .table)) (c .before .before .args .adr)) (c .enum-told5 .given .1))
+returns-5 c =
+    let start = c .before .before in
+    sym (ap (λ (k : Kind). offBy k (members (start .args .table)) (start .args .adr)) (c .enum-told5 .given .1))
 
 returns-6 : tie.Need-returns-6
 unfolding offBy
-returns-6 c = sym (ap (λ (k : Kind). offBy k (members (c .before .before .args .table)) (c .before .before .args .adr)) (c .enum-told6 .given .1))
+returns-6 c =
+    let start = c .before .before in
+    sym (ap (λ (k : Kind). offBy k (members (start .args .table)) (start .args .adr)) (c .enum-told6 .given .1))
 
 returns-7 : tie.Need-returns-7
 unfolding offBy
-returns-7 c = sym (ap (λ (k : Kind). offBy k (members (c .before .before .args .table)) (c .before .before .args .adr)) (c .enum-told7 .given .1))
+returns-7 c =
+    let start = c .before .before in
+    sym (ap (λ (k : Kind). offBy k (members (start .args .table)) (start .args .adr)) (c .enum-told7 .given .1))
 
 returns-8 : tie.Need-returns-8
 unfolding offBy
-returns-8 c = sym (ap (λ (k : Kind). offBy k (members (c .before .before .args .table)) (c .before .before .args .adr)) (c .enum-told8 .given .1))
+returns-8 c =
+    let start = c .before .before in
+    sym (ap (λ (k : Kind). offBy k (members (start .args .table)) (start .args .adr)) (c .enum-told8 .given .1))
 
 returns-9 : tie.Need-returns-9
 unfolding offBy
-returns-9 c = c .place-of .ensures ∙ sym (ap (λ (k : Kind). offBy k (members (c .before .before .before .args .table)) (c .before .before .before .args .adr)) (c .before .enum-told9 .given .1))
+returns-9 c =
+    let start = c .before .before .before in
+    c .place-of .ensures ∙ sym (ap (λ (k : Kind). offBy k (members (start .args .table)) (start .args .adr)) (c .before .enum-told9 .given .1))
 
 returns-10 : tie.Need-returns-10
 unfolding offBy
-returns-10 c = sym (ap (λ (k : Kind). offBy k (members (c .before .before .args .table)) (c .before .before .args .adr)) (c .enum-told10 .given .1))
+returns-10 c =
+    let start = c .before .before in
+    sym (ap (λ (k : Kind). offBy k (members (start .args .table)) (start .args .adr)) (c .enum-told10 .given .1))
 
 returns-11 : tie.Need-returns-11
 unfolding offBy
-returns-11 c = sym (ap (λ (k : Kind). offBy k (members (c .before .before .args .table)) (c .before .before .args .adr)) (c .enum-told11 .given .1))
+returns-11 c =
+    let start = c .before .before in
+    sym (ap (λ (k : Kind). offBy k (members (start .args .table)) (start .args .adr)) (c .enum-told11 .given .1))
 
 pub goes-off-spec : {M : Type 1} → statement M
 goes-off-spec =

@@ -23,19 +23,37 @@ loop-holds : tie.Need-loop-holds Inv-loop μ-loop
 loop-holds c = (omega arith, refl)
 
 mul-member : tie.Need-mul-member Inv-loop μ-loop
-mul-member c = omega (arith, at-most-twelve (c .before .before .before .args .t1) (twelve (c .before .before .before .args .t1) _ (c .before .before .before .good .0)), c .before .before .size .ensures)
+mul-member c =
+    let start = c .before .before .before in
+    let t1 = start .args .t1 in
+    omega (arith, at-most-twelve t1 (twelve t1 _ (start .good .0)), c .before .before .size .ensures)
 
 element-copy-out-member : tie.Need-element-copy-out-member Inv-loop μ-loop
-element-copy-out-member c = omega (arith, at-most-twelve (c .before .before .before .args .t1) (twelve (c .before .before .before .args .t1) _ (c .before .before .before .good .0)), c .before .before .size .ensures)
+element-copy-out-member c =
+    let start = c .before .before .before in
+    let t1 = start .args .t1 in
+    omega (arith, at-most-twelve t1 (twelve t1 _ (start .good .0)), c .before .before .size .ensures)
 
 add-i : tie.Need-add-i Inv-loop μ-loop
-add-i c = omega (arith, at-most-twelve (c .before .before .before .before .before .before .args .t1) (twelve (c .before .before .before .before .before .before .args .t1) _ (c .before .before .before .before .before .before .good .0)), c .before .before .before .before .before .size .ensures)
+add-i c =
+    let start = c .before .before .before .before .before .before in
+    let t1 = start .args .t1 in
+    let size = c .before .before .before .before .before .size in
+    omega (arith, at-most-twelve t1 (twelve t1 _ (start .good .0)), size .ensures)
 
 loop-less : tie.Need-loop-less Inv-loop μ-loop
-loop-less c = omega (arith, at-most-twelve (c .before .before .before .before .before .before .args .t1) (twelve (c .before .before .before .before .before .before .args .t1) _ (c .before .before .before .before .before .before .good .0)), c .before .before .before .before .before .size .ensures)
+loop-less c =
+    let start = c .before .before .before .before .before .before in
+    let t1 = start .args .t1 in
+    let size = c .before .before .before .before .before .size in
+    omega (arith, at-most-twelve t1 (twelve t1 _ (start .good .0)), size .ensures)
 
 loop-again : tie.Need-loop-again Inv-loop μ-loop
-loop-again c = (omega arith, fault-turn (c .before .before .before .before .before .before .args .t1) (c .before .before .before .before .loop .i) (omega (arith, c .before .before .before .before .before .size .ensures)) (c .before .before .before .before .loop .any) ∙ c .before .before .before .before .loop .inv .1)
+loop-again c =
+    let start = c .before .before .before .before .before .before in
+    let size = c .before .before .before .before .before .size in
+    let loop = c .before .before .before .before .loop in
+    (omega arith, fault-turn (start .args .t1) (loop .i) (omega (arith, size .ensures)) (loop .any) ∙ loop .inv .1)
 
 returns : tie.Need-returns Inv-loop μ-loop
 returns c = fault-end (c .before .before .before .args .t1) (c .before .loop .i) (omega (arith, c .before .before .size .ensures)) (c .before .loop .any) ∙ c .before .loop .inv .1

@@ -22,25 +22,48 @@ loop-holds : tie.Need-loop-holds Inv-loop μ-loop
 loop-holds c = (omega arith, omega arith, omega arith)
 
 mul-member : tie.Need-mul-member Inv-loop μ-loop
-mul-member c = omega (arith, at-most-twelve (c .before .before .before .args .t1) (twelve (c .before .before .before .args .t1) _ (c .before .before .before .good .0)), c .before .before .size .ensures)
+mul-member c =
+    let start = c .before .before .before in
+    let t1 = start .args .t1 in
+    omega (arith, at-most-twelve t1 (twelve t1 _ (start .good .0)), c .before .before .size .ensures)
 
 element-copy-out-member : tie.Need-element-copy-out-member Inv-loop μ-loop
-element-copy-out-member c = omega (arith, at-most-twelve (c .before .before .before .args .t1) (twelve (c .before .before .before .args .t1) _ (c .before .before .before .good .0)), c .before .before .size .ensures)
+element-copy-out-member c =
+    let start = c .before .before .before in
+    let t1 = start .args .t1 in
+    omega (arith, at-most-twelve t1 (twelve t1 _ (start .good .0)), c .before .before .size .ensures)
 
 one-requires : tie.Need-one-requires Inv-loop μ-loop
 one-requires c κs = tt
 
 add-on : tie.Need-add-on Inv-loop μ-loop
-add-on c = omega (arith, one-small (isOn (getD (c .before .before .before .before .before .before .args .t1 .modules) (c .before .before .before .before .loop .i) nil)) (c .one .ensures), at-most-twelve (c .before .before .before .before .before .before .args .t1) (twelve (c .before .before .before .before .before .before .args .t1) _ (c .before .before .before .before .before .before .good .0)), c .before .before .before .before .before .size .ensures)
+add-on c =
+    let start = c .before .before .before .before .before .before in
+    let t1 = start .args .t1 in
+    let size = c .before .before .before .before .before .size in
+    omega (arith, one-small (isOn (getD (t1 .modules) (c .before .before .before .before .loop .i) nil)) (c .one .ensures), at-most-twelve t1 (twelve t1 _ (start .good .0)), size .ensures)
 
 add-i : tie.Need-add-i Inv-loop μ-loop
-add-i c = omega (arith, at-most-twelve (c .before .before .before .before .before .before .args .t1) (twelve (c .before .before .before .before .before .before .args .t1) _ (c .before .before .before .before .before .before .good .0)), c .before .before .before .before .before .size .ensures)
+add-i c =
+    let start = c .before .before .before .before .before .before in
+    let t1 = start .args .t1 in
+    let size = c .before .before .before .before .before .size in
+    omega (arith, at-most-twelve t1 (twelve t1 _ (start .good .0)), size .ensures)
 
 loop-less : tie.Need-loop-less Inv-loop μ-loop
-loop-less c = omega (arith, at-most-twelve (c .before .before .before .before .before .before .args .t1) (twelve (c .before .before .before .before .before .before .args .t1) _ (c .before .before .before .before .before .before .good .0)), c .before .before .before .before .before .size .ensures)
+loop-less c =
+    let start = c .before .before .before .before .before .before in
+    let t1 = start .args .t1 in
+    let size = c .before .before .before .before .before .size in
+    omega (arith, at-most-twelve t1 (twelve t1 _ (start .good .0)), size .ensures)
 
 loop-again : tie.Need-loop-again Inv-loop μ-loop
-loop-again c = (omega arith, omega (arith, one-small (isOn (getD (c .before .before .before .before .before .before .args .t1 .modules) (c .before .before .before .before .loop .i) nil)) (c .one .ensures)), omega (arith, c .one .ensures, on-turn (c .before .before .before .before .before .before .args .t1) (c .before .before .before .before .loop .i) (omega (arith, c .before .before .before .before .before .size .ensures)), c .before .before .before .before .loop .inv .2))
+loop-again c =
+    let start = c .before .before .before .before .before .before in
+    let t1 = start .args .t1 in
+    let size = c .before .before .before .before .before .size in
+    let loop = c .before .before .before .before .loop in
+    (omega arith, omega (arith, one-small (isOn (getD (t1 .modules) (loop .i) nil)) (c .one .ensures)), omega (arith, c .one .ensures, on-turn t1 (loop .i) (omega (arith, size .ensures)), loop .inv .2))
 
 returns : tie.Need-returns Inv-loop μ-loop
 returns c = omega (arith, c .before .loop .inv .2, on-end (c .before .before .before .args .t1) (c .before .loop .i) (omega (arith, c .before .before .size .ensures)))

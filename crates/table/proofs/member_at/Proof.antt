@@ -15,19 +15,31 @@ size-requires : tie.Need-size-requires
 size-requires c κs = search needs
 
 mul-result : tie.Need-mul-result
-mul-result c = omega (arith, c .before .before .place-of .ensures, at-most-twelve (c .before .before .before .args .t1) (twelve (c .before .before .before .args .t1) _ (c .before .before .before .good .0)), c .before .size .ensures)
+mul-result c =
+    let start = c .before .before .before in
+    let t1 = start .args .t1 in
+    omega (arith, c .before .before .place-of .ensures, at-most-twelve t1 (twelve t1 _ (start .good .0)), c .before .size .ensures)
 
 element-copy-out-result : tie.Need-element-copy-out-result
-element-copy-out-result c = omega (arith, c .before .before .place-of .ensures, at-most-twelve (c .before .before .before .args .t1) (twelve (c .before .before .before .args .t1) _ (c .before .before .before .good .0)), c .before .size .ensures)
+element-copy-out-result c =
+    let start = c .before .before .before in
+    let t1 = start .args .t1 in
+    omega (arith, c .before .before .place-of .ensures, at-most-twelve t1 (twelve t1 _ (start .good .0)), c .before .size .ensures)
 
 returns : tie.Need-returns
-returns c = is-member (c .before .before .before .before .args .t1) (c .before .before .before .before .args .adr) (c .before .before .before .place-of .result) (c .before .before .before .place-of .ensures) (omega (arith, c .before .before .size .ensures))
+returns c =
+    let start = c .before .before .before .before in
+    let place-of = c .before .before .before .place-of in
+    is-member (start .args .t1) (start .args .adr) (place-of .result) (place-of .ensures) (omega (arith, c .before .before .size .ensures))
 
 blank-module-requires : tie.Need-blank-module-requires
 blank-module-requires c κs = search needs
 
 returns-2 : tie.Need-returns-2
-returns-2 c = c .blank-module .ensures ∙ no-member (c .before .before .before .before .args .t1) (c .before .before .before .before .args .adr) (c .before .before .before .place-of .result) (c .before .before .before .place-of .ensures) (omega (arith, c .before .before .size .ensures))
+returns-2 c =
+    let start = c .before .before .before .before in
+    let place-of = c .before .before .before .place-of in
+    c .blank-module .ensures ∙ no-member (start .args .t1) (start .args .adr) (place-of .result) (place-of .ensures) (omega (arith, c .before .before .size .ensures))
 
 pub member-at-spec : {M : Type 1} → statement M
 member-at-spec =

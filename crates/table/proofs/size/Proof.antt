@@ -1,6 +1,5 @@
 -- There are twelve places for records.
 use Prim.Native.Nat.{_-_}
-use lib.ListN.{take}
 use Rattle.table.proofs.Members.{size-full, size-count}
 use Rattle.table.proofs.Twelve.{twelve}
 use Rattle.table.proofs.size.Statement.{statement}

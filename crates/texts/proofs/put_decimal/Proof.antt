@@ -13,25 +13,33 @@ add-put : tie.Need-add-put
 add-put c = search needs
 
 put-requires : tie.Need-put-requires
-put-requires c κs = rw (decimal-small (c .before .before .before .args .n) (omega arith)) at (c .before .before .before .pre)
+put-requires c κs =
+    let start = c .before .before .before in
+    rw (decimal-small (start .args .n) (omega arith)) at (start .pre)
 
 same-length : tie.Need-same-length
 same-length c = search needs
 
 returns : tie.Need-returns
-returns c = rw (decimal-small (c .before .before .before .before .before .before .args .n) (omega arith)) (c .before .before .put .ensures)
+returns c =
+    let start = c .before .before .before .before .before .before in
+    rw (decimal-small (start .args .n) (omega arith)) (c .before .before .put .ensures)
 
 places-requires : tie.Need-places-requires
 places-requires c κs = search needs
 
 put-digits-requires : tie.Need-put-digits-requires
-put-digits-requires c κs = rw (c .before .places .ensures, decimal-digits (c .before .before .before .before .args .n)) (c .before .before .before .before .pre)
+put-digits-requires c κs =
+    let start = c .before .before .before .before in
+    rw (c .before .places .ensures, decimal-digits (start .args .n)) (start .pre)
 
 same-length-2 : tie.Need-same-length-2
 same-length-2 c = search needs
 
 returns-2 : tie.Need-returns-2
-returns-2 c = rw (c .before .before .before .before .places .ensures, decimal-digits (c .before .before .before .before .before .before .before .args .n)) at (c .before .before .put-digits .ensures)
+returns-2 c =
+    let start = c .before .before .before .before .before .before .before in
+    rw (c .before .before .before .before .places .ensures, decimal-digits (start .args .n)) at (c .before .before .put-digits .ensures)
 
 pub put-decimal-spec : {M : Type 1} → statement M
 put-decimal-spec =

@@ -26,34 +26,51 @@ loop-holds : tie.Need-loop-holds Inv-loop μ-loop
 loop-holds c = (refl, omega arith, refl)
 
 sub-i : tie.Need-sub-i Inv-loop μ-loop
-sub-i c = omega (arith, c .before .before .pre .fits, digits-length (c .before .before .args .k) (c .before .before .args .n))
+sub-i c =
+    let start = c .before .before in
+    omega (arith, start .pre .fits, digits-length (start .args .k) (start .args .n))
 
 cast-out : tie.Need-cast-out Inv-loop μ-loop
-cast-out c = omega (arith, c .before .before .pre .fits, digits-length (c .before .before .args .k) (c .before .before .args .n))
+cast-out c =
+    let start = c .before .before in
+    omega (arith, start .pre .fits, digits-length (start .args .k) (start .args .n))
 
 add-out : tie.Need-add-out Inv-loop μ-loop
-add-out c = omega (arith, c .before .before .pre .fits, digits-length (c .before .before .args .k) (c .before .before .args .n))
+add-out c =
+    let start = c .before .before in
+    omega (arith, start .pre .fits, digits-length (start .args .k) (start .args .n))
 
 add-out-2 : tie.Need-add-out-2 Inv-loop μ-loop
-add-out-2 c = omega (arith, c .before .before .pre .fits, digits-length (c .before .before .args .k) (c .before .before .args .n))
+add-out-2 c =
+    let start = c .before .before in
+    omega (arith, start .pre .fits, digits-length (start .args .k) (start .args .n))
 
 slice-write-out : tie.Need-slice-write-out Inv-loop μ-loop
-slice-write-out c = omega (arith, c .before .before .pre .fits, digits-length (c .before .before .args .k) (c .before .before .args .n))
+slice-write-out c =
+    let start = c .before .before in
+    omega (arith, start .pre .fits, digits-length (start .args .k) (start .args .n))
 
 loop-less : tie.Need-loop-less Inv-loop μ-loop
-loop-less c = omega (arith, c .before .before .pre .fits, digits-length (c .before .before .args .k) (c .before .before .args .n))
+loop-less c =
+    let start = c .before .before in
+    omega (arith, start .pre .fits, digits-length (start .args .k) (start .args .n))
 
 loop-again : tie.Need-loop-again Inv-loop μ-loop
 loop-again c =
+    let start = c .before .before in
     let l = c .before .loop in
-    let a = c .before .before .args in
-    (simp length-set (l .inv .0), omega arith, digits-turn (l .out) (a .at) (l .i) (l .rest) (c .loop-test .taken) (omega (arith, c .before .before .pre .fits, digits-length (c .before .before .args .k) (c .before .before .args .n))) ∙ l .inv .2)
+    let a = start .args in
+    (simp length-set (l .inv .0), omega arith, digits-turn (l .out) (a .at) (l .i) (l .rest) (c .loop-test .taken) (omega (arith, start .pre .fits, digits-length (start .args .k) (start .args .n))) ∙ l .inv .2)
 
 add-result : tie.Need-add-result Inv-loop μ-loop
-add-result c = omega (arith, c .before .before .pre .fits, digits-length (c .before .before .args .k) (c .before .before .args .n))
+add-result c =
+    let start = c .before .before in
+    omega (arith, start .pre .fits, digits-length (start .args .k) (start .args .n))
 
 same-length : tie.Need-same-length Inv-loop μ-loop
-same-length c = omega (arith, c .before .before .pre .fits, digits-length (c .before .before .args .k) (c .before .before .args .n))
+same-length c =
+    let start = c .before .before in
+    omega (arith, start .pre .fits, digits-length (start .args .k) (start .args .n))
 
 returns : tie.Need-returns Inv-loop μ-loop
 returns c =

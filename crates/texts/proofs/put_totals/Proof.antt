@@ -12,21 +12,29 @@ slice-aggregate-put-number-line c = search needs
 
 put-number-line-requires : tie.Need-put-number-line-requires
 unfolding totals
-put-number-line-requires c κs = room-first (line FRAMES (decimal (c .before .before .before .args .frames))) (line REFUSALS (decimal (c .before .before .before .args .refusals))) (c .before .before .before .pre)
+put-number-line-requires c κs =
+    let start = c .before .before .before in
+    room-first (line FRAMES (decimal (start .args .frames))) (line REFUSALS (decimal (start .args .refusals))) (start .pre)
 
 slice-aggregate-put-number-line-2 : tie.Need-slice-aggregate-put-number-line-2
 slice-aggregate-put-number-line-2 c = search needs
 
 put-number-line-requires-2 : tie.Need-put-number-line-requires-2
 unfolding totals
-put-number-line-requires-2 c κs = room-rest (line FRAMES (decimal (c .before .before .before .before .before .before .before .before .args .frames))) (line REFUSALS (decimal (c .before .before .before .before .before .before .before .before .args .refusals))) (c .before .before .before .before .before .before .before .before .pre) (c .before .before .before .before .put-number-line .ensures) (c .before .before .before .before .put-number-line .kept .0)
+put-number-line-requires-2 c κs =
+    let start = c .before .before .before .before .before .before .before .before in
+    let put-number-line = c .before .before .before .before .put-number-line in
+    room-rest (line FRAMES (decimal (start .args .frames))) (line REFUSALS (decimal (start .args .refusals))) (start .pre) (put-number-line .ensures) (put-number-line .kept .0)
 
 same-length : tie.Need-same-length
 same-length c = search needs
 
 returns : tie.Need-returns
 unfolding totals
-returns c = put-then (room-first (line FRAMES (decimal (c .before .before .before .before .before .before .before .before .before .before .before .args .frames))) (line REFUSALS (decimal (c .before .before .before .before .before .before .before .before .before .before .before .args .refusals))) (c .before .before .before .before .before .before .before .before .before .before .before .pre)) (c .before .before .before .before .before .before .before .put-number-line .ensures) (c .before .before .put-number-line2 .ensures)
+returns c =
+    let start = c .before .before .before .before .before .before .before .before .before .before .before in
+    let put-number-line = c .before .before .before .before .before .before .before .put-number-line in
+    put-then (room-first (line FRAMES (decimal (start .args .frames))) (line REFUSALS (decimal (start .args .refusals))) (start .pre)) (put-number-line .ensures) (c .before .before .put-number-line2 .ensures)
 
 pub put-totals-spec : {M : Type 1} → statement M
 put-totals-spec =

@@ -1,10 +1,7 @@
 -- The bytes themselves.
 use Prim.Native.Nat.{_-_}
-use lib.Dec.{T}
-use lib.ListN.{length}
 use borrow.Author.Needs.{needs}
 use Rattle.writers.proofs.Texts.{serial-text}
-use Rattle.record.specs.Texts.{serial}
 use Rattle.writers.proofs.put_serial.Statement.{statement}
 use Rattle.writers.proofs.put_serial.Tie as tie
 
@@ -12,13 +9,17 @@ slice-aggregate-put-all : tie.Need-slice-aggregate-put-all
 slice-aggregate-put-all c = search needs
 
 put-all-requires : tie.Need-put-all-requires
-put-all-requires c κs = rw (serial-text (c .before .before .before .args .t3)) at (c .before .before .before .pre)
+put-all-requires c κs =
+    let start = c .before .before .before in
+    rw (serial-text (start .args .t3)) at (start .pre)
 
 same-length : tie.Need-same-length
 same-length c = search needs
 
 returns : tie.Need-returns
-returns c = rw (← (serial-text (c .before .before .before .before .before .before .args .t3))) at (c .before .before .put-all .ensures)
+returns c =
+    let start = c .before .before .before .before .before .before in
+    rw (← (serial-text (start .args .t3))) at (c .before .before .put-all .ensures)
 
 pub put-serial-spec : {M : Type 1} → statement M
 put-serial-spec = tie.close (tie.spec slice-aggregate-put-all put-all-requires same-length returns)

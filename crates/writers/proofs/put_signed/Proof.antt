@@ -1,13 +1,11 @@
 -- The word of the number.
 use mathlib.Core.Path.{ap, _∙_, subst}
 use Prim.Native.Nat.{ℕ, _-_}
-use lib.Dec.{T}
-use lib.ListN.{length}
 use mir.Facts.{toZ-ofZ}
-use mir.Val.{ofZ, toZ}
+use mir.Val.{ofZ}
 use mir.Syntax.{w16}
 use borrow.Author.Needs.{needs}
-use Rattle.codec.specs.Numbers.{word, signed}
+use Rattle.codec.specs.Numbers.{word}
 use Rattle.buffer.specs.Put.{Put}
 use Rattle.writers.proofs.put_signed.Statement.{statement}
 use Rattle.writers.proofs.put_signed.Tie as tie
@@ -23,8 +21,9 @@ same-length c = search needs
 
 returns : tie.Need-returns
 returns c =
-    let e = c .before .before .before .word-of .ensures ∙ ap (ofZ w16) (toZ-ofZ (c .before .before .before .before .before .before .fits .value)) in
-    subst (λ (v : ℕ). Put (c .before .before .before .before .before .before .args .out .now) (c .before .before .before .before .before .before .args .at) (word .put v) (c .before .before .put-word .last .0) (c .before .before .put-word .result)) e (c .before .before .put-word .ensures)
+    let start = c .before .before .before .before .before .before in
+    let e = c .before .before .before .word-of .ensures ∙ ap (ofZ w16) (toZ-ofZ (start .fits .value)) in
+    subst (λ (v : ℕ). Put (start .args .out .now) (start .args .at) (word .put v) (c .before .before .put-word .last .0) (c .before .before .put-word .result)) e (c .before .before .put-word .ensures)
 
 pub put-signed-spec : {M : Type 1} → statement M
 put-signed-spec = tie.close (tie.spec word-of-requires put-word-requires same-length returns)

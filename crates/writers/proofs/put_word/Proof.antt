@@ -1,10 +1,7 @@
 -- The high byte, then the low one.
 use Prim.Native.Nat.{_-_}
 use native.Mathlib.Omega.{arith}
-use lib.Dec.{T}
-use lib.ListN.{length}
 use borrow.Author.Needs.{needs}
-use Rattle.codec.specs.Numbers.{word}
 use Rattle.buffer.proofs.Puts.{put-then}
 use Rattle.writers.proofs.put_word.Statement.{statement}
 use Rattle.writers.proofs.put_word.Tie as tie
@@ -25,7 +22,10 @@ same-length : tie.Need-same-length
 same-length c = search needs
 
 returns : tie.Need-returns
-returns c = put-then (record { fits = omega (arith, c .before .before .before .before .before .before .before .before .before .pre .fits) }) (c .before .before .before .before .before .before .put .ensures) (c .before .before .put2 .ensures)
+returns c =
+    let start = c .before .before .before .before .before .before .before .before .before in
+    let put = c .before .before .before .before .before .before .put in
+    put-then (record { fits = omega (arith, start .pre .fits) }) (put .ensures) (c .before .before .put2 .ensures)
 
 pub put-word-spec : {M : Type 1} → statement M
 put-word-spec =

@@ -1,10 +1,8 @@
 -- 33, then 32, then Command and the record after it.
-use mathlib.Core.Bool.{true, false, _&&_}
+use mathlib.Core.Bool.{_&&_}
 use mathlib.Core.Path.{sym, _∙_}
 use Prim.Native.Nat.{_-_}
 use native.Mathlib.Omega.{arith}
-use lib.Dec.{T}
-use lib.ListN.{length, take}
 use borrow.Author.Tests.{not-true, not-false}
 use mir.Val.{Fits}
 use mir.Syntax.{w8}
@@ -24,15 +22,20 @@ is-address-requires c κs = search needs
 
 returns : tie.Need-returns
 unfolding limitsInfo
-returns c = writing-fault 33 (limitsInfo (c .before .before .before .args .given .adr) .put ((c .before .before .before .args .given .adr), (c .before .before .before .args .given .limits))) (c .before .before .before .args .out .now) (isAddress (c .before .before .before .args .given .adr) && limitsInfo (c .before .before .before .args .given .adr) .ok ((c .before .before .before .args .given .adr), (c .before .before .before .args .given .limits))) (not-address (c .before .before .before .args .given .adr) (limitsInfo (c .before .before .before .args .given .adr) .ok ((c .before .before .before .args .given .adr), (c .before .before .before .args .given .limits))) (sym (c .before .is-address .ensures) ∙ not-true _ (c .if1 .taken)))
+returns c =
+    let start = c .before .before .before in
+    let given = start .args .given in
+    writing-fault 33 (limitsInfo (given .adr) .put ((given .adr), (given .limits))) (start .args .out .now) (isAddress (given .adr) && limitsInfo (given .adr) .ok ((given .adr), (given .limits))) (not-address (given .adr) (limitsInfo (given .adr) .ok ((given .adr), (given .limits))) (sym (c .before .is-address .ensures) ∙ not-true _ (c .if1 .taken)))
 
 returns-2 : tie.Need-returns-2
 unfolding limitsInfo
 returns-2 c =
-    let h : Fits w8 (c .before .before .before .before .args .given .adr) = search needs in
-    let z = limits-length (c .before .before .before .before .args .given .limits) in
-    let fine = led (c .before .before .before .before .args .given .adr) limits (c .before .before .before .before .args .given .limits) (sym (c .before .before .is-address .ensures) ∙ not-false _ (c .before .if1 .left)) (h .fits) (module-limits-ok (c .before .before .before .before .args .given) _ (c .before .before .before .before .good .1 .0)) in
-    writing-short 33 (limitsInfo (c .before .before .before .before .args .given .adr) .put ((c .before .before .before .before .args .given .adr), (c .before .before .before .before .args .given .limits))) (c .before .before .before .before .args .out .now) (isAddress (c .before .before .before .before .args .given .adr) && limitsInfo (c .before .before .before .before .args .given .adr) .ok ((c .before .before .before .before .args .given .adr), (c .before .before .before .before .args .given .limits))) fine (omega (arith, z, c .if2 .taken))
+    let start = c .before .before .before .before in
+    let given = start .args .given in
+    let h : Fits w8 (given .adr) = search needs in
+    let z = limits-length (given .limits) in
+    let fine = led (given .adr) limits (given .limits) (sym (c .before .before .is-address .ensures) ∙ not-false _ (c .before .if1 .left)) (h .fits) (module-limits-ok given _ (start .good .1 .0)) in
+    writing-short 33 (limitsInfo (given .adr) .put ((given .adr), (given .limits))) (start .args .out .now) (isAddress (given .adr) && limitsInfo (given .adr) .ok ((given .adr), (given .limits))) fine (omega (arith, z, c .if2 .taken))
 
 put-requires : tie.Need-put-requires
 put-requires c κs = search needs
@@ -40,8 +43,11 @@ put-requires c κs = search needs
 put-limits-requires : tie.Need-put-limits-requires
 unfolding limits
 put-limits-requires c κs =
-    let z = limits-length (c .before .before .before .before .before .before .before .before .before .before .args .given .limits) in
-    record { fits = omega (arith, z, c .before .before .before .before .before .before .if2 .left, c .before .before .before .before .put .ensures .end, c .before .before .before .before .put .kept) }
+    let start = c .before .before .before .before .before .before .before .before .before .before in
+    let if2 = c .before .before .before .before .before .before .if2 in
+    let put = c .before .before .before .before .put in
+    let z = limits-length (start .args .given .limits) in
+    record { fits = omega (arith, z, if2 .left, put .ensures .end, put .kept) }
 
 same-length : tie.Need-same-length
 same-length c = search needs
@@ -49,11 +55,17 @@ same-length c = search needs
 returns-3 : tie.Need-returns-3
 unfolding limitsInfo
 returns-3 c =
-    let h : Fits w8 (c .before .before .before .before .before .before .before .before .before .before .before .before .before .args .given .adr) = search needs in
-    let z = limits-length (c .before .before .before .before .before .before .before .before .before .before .before .before .before .args .given .limits) in
-    let fine = led (c .before .before .before .before .before .before .before .before .before .before .before .before .before .args .given .adr) limits (c .before .before .before .before .before .before .before .before .before .before .before .before .before .args .given .limits) (sym (c .before .before .before .before .before .before .before .before .before .before .before .is-address .ensures) ∙ not-false _ (c .before .before .before .before .before .before .before .before .before .before .if1 .left)) (h .fits) (module-limits-ok (c .before .before .before .before .before .before .before .before .before .before .before .before .before .args .given) _ (c .before .before .before .before .before .before .before .before .before .before .before .before .before .good .1 .0)) in
-    writing-all 33 (limitsInfo (c .before .before .before .before .before .before .before .before .before .before .before .before .before .args .given .adr) .put ((c .before .before .before .before .before .before .before .before .before .before .before .before .before .args .given .adr), (c .before .before .before .before .before .before .before .before .before .before .before .before .before .args .given .limits))) (c .before .before .before .before .before .before .before .before .before .before .before .before .before .args .out .now) (isAddress (c .before .before .before .before .before .before .before .before .before .before .before .before .before .args .given .adr) && limitsInfo (c .before .before .before .before .before .before .before .before .before .before .before .before .before .args .given .adr) .ok ((c .before .before .before .before .before .before .before .before .before .before .before .before .before .args .given .adr), (c .before .before .before .before .before .before .before .before .before .before .before .before .before .args .given .limits))) fine (omega (arith, z, c .before .before .before .before .before .before .before .before .before .if2 .left)) (c .before .before .put-limits .last .0) (c .before .before .put-limits .result)
-    (put-then (record { fits = omega (arith, c .before .before .before .before .before .before .before .before .before .if2 .left) }) (c .before .before .before .before .before .before .before .put .ensures) (c .before .before .put-limits .ensures))
+    let start = c .before .before .before .before .before .before .before .before .before .before .before .before .before in
+    let given = start .args .given in
+    let is-address = c .before .before .before .before .before .before .before .before .before .before .before .is-address in
+    let if1 = c .before .before .before .before .before .before .before .before .before .before .if1 in
+    let if2 = c .before .before .before .before .before .before .before .before .before .if2 in
+    let put = c .before .before .before .before .before .before .before .put in
+    let h : Fits w8 (given .adr) = search needs in
+    let z = limits-length (given .limits) in
+    let fine = led (given .adr) limits (given .limits) (sym (is-address .ensures) ∙ not-false _ (if1 .left)) (h .fits) (module-limits-ok given _ (start .good .1 .0)) in
+    writing-all 33 (limitsInfo (given .adr) .put ((given .adr), (given .limits))) (start .args .out .now) (isAddress (given .adr) && limitsInfo (given .adr) .ok ((given .adr), (given .limits))) fine (omega (arith, z, if2 .left)) (c .before .before .put-limits .last .0) (c .before .before .put-limits .result)
+    (put-then (record { fits = omega (arith, if2 .left) }) (put .ensures) (c .before .before .put-limits .ensures))
 
 pub write-limits-spec : {M : Type 1} → statement M
 write-limits-spec =

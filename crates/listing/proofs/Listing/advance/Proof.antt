@@ -10,16 +10,27 @@ run-requires : tie.Need-run-requires
 run-requires c κs = search needs
 
 cast-offset : tie.Need-cast-offset
-cast-offset c = omega (arith, ran-turned (c .before .before .before .before .before .before .before .args .self) (c .before .before .before .before .before .before .before .args .store .now) (c .before .before .before .before .before .before .before .args .piece .now) (c .before .before .before .before .before .before .before .pre .0, c .before .before .before .before .before .before .before .pre .1) (c .before .before .run .result) (c .before .before .run .last .1 .0) (c .before .before .run .ensures) .few, c .before .before .before .before .before .before .before .pre .2)
+cast-offset c =
+    let start = c .before .before .before .before .before .before .before in
+    omega (arith, ran-turned (start .args .self) (start .args .store .now) (start .args .piece .now) (start .pre .0, start .pre .1) (c .before .before .run .result) (c .before .before .run .last .1 .0) (c .before .before .run .ensures) .few, start .pre .2)
 
 add-offset : tie.Need-add-offset
-add-offset c = omega (arith, ran-turned (c .before .before .before .before .before .before .before .before .args .self) (c .before .before .before .before .before .before .before .before .args .store .now) (c .before .before .before .before .before .before .before .before .args .piece .now) (c .before .before .before .before .before .before .before .before .pre .0, c .before .before .before .before .before .before .before .before .pre .1) (c .before .before .before .run .result) (c .before .before .before .run .last .1 .0) (c .before .before .before .run .ensures) .few, c .before .before .before .before .before .before .before .before .pre .2)
+add-offset c =
+    let start = c .before .before .before .before .before .before .before .before in
+    let run = c .before .before .before .run in
+    omega (arith, ran-turned (start .args .self) (start .args .store .now) (start .args .piece .now) (start .pre .0, start .pre .1) (run .result) (run .last .1 .0) (run .ensures) .few, start .pre .2)
 
 back-requires : tie.Need-back-requires
-back-requires c κs = ran-turned (c .before .before .before .before .before .before .before .before .args .self) (c .before .before .before .before .before .before .before .before .args .store .now) (c .before .before .before .before .before .before .before .before .args .piece .now) (c .before .before .before .before .before .before .before .before .pre .0, c .before .before .before .before .before .before .before .before .pre .1) (c .before .before .before .run .result) (c .before .before .before .run .last .1 .0) (c .before .before .before .run .ensures) .held
+back-requires c κs =
+    let start = c .before .before .before .before .before .before .before .before in
+    let run = c .before .before .before .run in
+    ran-turned (start .args .self) (start .args .store .now) (start .args .piece .now) (start .pre .0, start .pre .1) (run .result) (run .last .1 .0) (run .ensures) .held
 
 put-event-requires : tie.Need-put-event-requires
-put-event-requires c κs = (c .before .before .before .before .before .before .before .before .before .before .before .pre .3, omega (arith, c .before .before .before .before .before .before .before .before .before .before .before .pre .0, c .before .before .before .before .before .before .run .kept .1 .0), ran-turned (c .before .before .before .before .before .before .before .before .before .before .before .args .self) (c .before .before .before .before .before .before .before .before .before .before .before .args .store .now) (c .before .before .before .before .before .before .before .before .before .before .before .args .piece .now) (c .before .before .before .before .before .before .before .before .before .before .before .pre .0, c .before .before .before .before .before .before .before .before .before .before .before .pre .1) (c .before .before .before .before .before .before .run .result) (c .before .before .before .before .before .before .run .last .1 .0) (c .before .before .before .before .before .before .run .ensures) .stands)
+put-event-requires c κs =
+    let start = c .before .before .before .before .before .before .before .before .before .before .before in
+    let run = c .before .before .before .before .before .before .run in
+    (start .pre .3, omega (arith, start .pre .0, run .kept .1 .0), ran-turned (start .args .self) (start .args .store .now) (start .args .piece .now) (start .pre .0, start .pre .1) (run .result) (run .last .1 .0) (run .ensures) .stands)
 
 frames-then-requires : tie.Need-frames-then-requires
 frames-then-requires c κs = search needs
@@ -35,8 +46,12 @@ same-length-2 c = search needs
 
 returns : tie.Need-returns
 returns c =
-    turn-puts (c .before .before .before .before .before .before .before .before .before .before .before .before .before .before .before .before .args .self) (c .before .before .before .before .before .before .before .before .before .before .before .before .before .before .before .before .args .store .now) (c .before .before .before .before .before .before .before .before .before .before .before .before .before .before .before .before .args .piece .now) (c .before .before .before .before .before .before .before .before .before .before .before .before .before .before .before .before .pre .0, c .before .before .before .before .before .before .before .before .before .before .before .before .before .before .before .before .pre .1) (c .before .before .before .before .before .before .before .before .before .before .before .run .result) (c .before .before .before .before .before .before .before .before .before .before .before .run .last .1 .0) (c .before .before .before .before .before .before .before .before .before .before .before .run .ensures) (c .before .before .before .before .before .before .before .before .before .before .before .before .before .before .before .before .args .out .now) (c .before .before .before .before .put-event .last .0) (c .before .before .before .before .before .before .before .before .before .before .before .before .before .before .before .before .args .at) (c .before .before .before .before .before .before .before .back .result) (c .before .before .before .before .put-event .result) (c .before .frames-then .result) (c .refusals-then .result)
-    (c .before .before .before .before .before .before .before .back .ensures) (c .before .before .before .before .put-event .ensures) (c .before .frames-then .ensures) (c .refusals-then .ensures)
+    let start = c .before .before .before .before .before .before .before .before .before .before .before .before .before .before .before .before in
+    let run = c .before .before .before .before .before .before .before .before .before .before .before .run in
+    let back = c .before .before .before .before .before .before .before .back in
+    let put-event = c .before .before .before .before .put-event in
+    turn-puts (start .args .self) (start .args .store .now) (start .args .piece .now) (start .pre .0, start .pre .1) (run .result) (run .last .1 .0) (run .ensures) (start .args .out .now) (put-event .last .0) (start .args .at) (back .result) (put-event .result) (c .before .frames-then .result) (c .refusals-then .result)
+    (back .ensures) (put-event .ensures) (c .before .frames-then .ensures) (c .refusals-then .ensures)
 
 pub advance-spec : {M : Type 1} → statement M
 advance-spec =

@@ -5,7 +5,7 @@ use Prim.Native.Nat.{ℕ, _-_}
 use native.Mathlib.Omega.{arith}
 use lib.ListN.{length, drop, length-drop}
 use Rattle.listing.proofs.Parts.{lent, Sofar, sofar-none, turn-few, turn-some, sofar-turn, sofar-full, sofar-end}
-use Rattle.listing.specs.Piece.{turn, Puts, left}
+use Rattle.listing.specs.Piece.{turn, Puts}
 use Rattle.receiver.specs.Run.{stepping}
 use Rattle.listing.proofs.Listing.list_within.Statement.{statement}
 use Rattle.listing.proofs.Listing.list_within.Tie as tie
@@ -26,7 +26,9 @@ one-at m =
     (lent (m .before .before .before .before .before .before .before .before .before .before .args .piece .now) (l .i)) (m .advance .ensures)
 
 loop-holds : tie.Need-loop-holds Inv-loop μ-loop
-loop-holds c = (sofar-none (c .before .before .before .args .self) (c .before .before .before .args .store .now) (c .before .before .before .args .piece .now) (c .before .before .before .args .out .now) (c .before .before .before .pre .0, c .before .before .before .pre .1) (c .before .before .before .pre .2), refl, refl)
+loop-holds c =
+    let start = c .before .before .before in
+    (sofar-none (start .args .self) (start .args .store .now) (start .args .piece .now) (start .args .out .now) (start .pre .0, start .pre .1) (start .pre .2), refl, refl)
 
 sub-if1 : tie.Need-sub-if1 Inv-loop μ-loop
 sub-if1 c = omega (arith, c .before .loop .inv .0 .within, c .before .loop .inv .2)
@@ -38,7 +40,9 @@ same-length-2 : tie.Need-same-length-2 Inv-loop μ-loop
 same-length-2 c = omega arith
 
 returns : tie.Need-returns Inv-loop μ-loop
-returns c = sofar-full (c .before .before .before .before .before .before .args .self) (c .before .before .before .before .before .before .args .store .now) (c .before .before .before .before .before .before .args .piece .now) (c .before .before .before .before .before .before .args .out .now) (c .before .before .loop .l) (c .before .before .loop .store) (c .before .before .loop .out) (c .before .before .loop .i) (c .before .before .loop .end) (c .before .before .loop .inv .0) (omega (arith, c .if1 .taken, c .before .before .loop .inv .2))
+returns c =
+    let start = c .before .before .before .before .before .before in
+    sofar-full (start .args .self) (start .args .store .now) (start .args .piece .now) (start .args .out .now) (c .before .before .loop .l) (c .before .before .loop .store) (c .before .before .loop .out) (c .before .before .loop .i) (c .before .before .loop .end) (c .before .before .loop .inv .0) (omega (arith, c .if1 .taken, c .before .before .loop .inv .2))
 
 sub-advance : tie.Need-sub-advance Inv-loop μ-loop
 sub-advance c = omega arith
@@ -51,20 +55,42 @@ part-advance-end c = omega arith
 
 advance-requires : tie.Need-advance-requires Inv-loop μ-loop
 advance-requires c κs =
-    let s = c .before .before .before .before .before .loop .inv .0 in
-    let rest = ap length (lent (c .before .before .before .before .before .before .before .before .before .args .piece .now) (c .before .before .before .before .before .loop .i)) ∙ length-drop (c .before .before .before .before .before .loop .i) (c .before .before .before .before .before .before .before .before .before .args .piece .now) in
-    (s .fits .0, s .fits .1, omega (arith, rest, s .limit), omega (arith, c .before .before .before .if1 .left, s .within, c .before .before .before .before .before .loop .inv .2))
+    let start = c .before .before .before .before .before .before .before .before .before in
+    let piece = start .args .piece .now in
+    let loop = c .before .before .before .before .before .loop in
+    let s = loop .inv .0 in
+    let rest = ap length (lent piece (loop .i)) ∙ length-drop (loop .i) piece in
+    (s .fits .0, s .fits .1, omega (arith, rest, s .limit), omega (arith, c .before .before .before .if1 .left, s .within, loop .inv .2))
 
 add-i : tie.Need-add-i Inv-loop μ-loop
-add-i c = omega (arith, turn-few (c .before .before .before .before .before .before .before .before .before .before .before .before .before .before .before .before .args .self) (c .before .before .before .before .before .before .before .before .before .before .before .before .before .before .before .before .args .store .now) (c .before .before .before .before .before .before .before .before .before .before .before .before .before .before .before .before .args .piece .now) (c .before .before .before .before .before .before .before .before .before .before .before .before .before .before .before .before .args .out .now) (c .before .before .before .before .before .before .before .before .before .before .before .before .loop .l) (c .before .before .before .before .before .before .before .before .before .before .before .before .loop .store) (c .before .before .before .before .before .before .before .before .before .before .before .before .loop .out) (c .before .before .before .before .before .before .before .before .before .before .before .before .loop .i) (c .before .before .before .before .before .before .before .before .before .before .before .before .loop .end) (c .before .before .before .before .before .before .before .before .before .before .before .before .loop .inv .0) (c .before .before .before .before .before .before .advance .result) (c .before .before .before .before .before .before .advance .last .1 .0) (c .before .before .before .before .before .before .advance .last .1 .1 .1 .0) (omega (arith, c .before .before .before .before .before .before .before .before .before .before .if1 .left, c .before .before .before .before .before .before .before .before .before .before .before .before .loop .inv .2, c .before .before .before .before .before .before .before .before .before .before .before .before .loop .inv .0 .within)) (one-at (c .before .before .before .before .before .before)))
+add-i c =
+    let start = c .before .before .before .before .before .before .before .before .before .before .before .before .before .before .before .before in
+    let loop = c .before .before .before .before .before .before .before .before .before .before .before .before .loop in
+    let if1 = c .before .before .before .before .before .before .before .before .before .before .if1 in
+    let advance = c .before .before .before .before .before .before .advance in
+    omega (arith, turn-few (start .args .self) (start .args .store .now) (start .args .piece .now) (start .args .out .now) (loop .l) (loop .store) (loop .out) (loop .i) (loop .end) (loop .inv .0) (advance .result) (advance .last .1 .0) (advance .last .1 .1 .1 .0) (omega (arith, if1 .left, loop .inv .2, loop .inv .0 .within)) (one-at (c .before .before .before .before .before .before)))
 
 loop-less : tie.Need-loop-less Inv-loop μ-loop
-loop-less c = omega (arith, turn-few (c .before .before .before .before .before .before .before .before .before .before .before .before .before .before .before .before .args .self) (c .before .before .before .before .before .before .before .before .before .before .before .before .before .before .before .before .args .store .now) (c .before .before .before .before .before .before .before .before .before .before .before .before .before .before .before .before .args .piece .now) (c .before .before .before .before .before .before .before .before .before .before .before .before .before .before .before .before .args .out .now) (c .before .before .before .before .before .before .before .before .before .before .before .before .loop .l) (c .before .before .before .before .before .before .before .before .before .before .before .before .loop .store) (c .before .before .before .before .before .before .before .before .before .before .before .before .loop .out) (c .before .before .before .before .before .before .before .before .before .before .before .before .loop .i) (c .before .before .before .before .before .before .before .before .before .before .before .before .loop .end) (c .before .before .before .before .before .before .before .before .before .before .before .before .loop .inv .0) (c .before .before .before .before .before .before .advance .result) (c .before .before .before .before .before .before .advance .last .1 .0) (c .before .before .before .before .before .before .advance .last .1 .1 .1 .0) (omega (arith, c .before .before .before .before .before .before .before .before .before .before .if1 .left, c .before .before .before .before .before .before .before .before .before .before .before .before .loop .inv .2, c .before .before .before .before .before .before .before .before .before .before .before .before .loop .inv .0 .within)) (one-at (c .before .before .before .before .before .before)), turn-some (c .before .before .before .before .before .before .before .before .before .before .before .before .before .before .before .before .args .self) (c .before .before .before .before .before .before .before .before .before .before .before .before .before .before .before .before .args .store .now) (c .before .before .before .before .before .before .before .before .before .before .before .before .before .before .before .before .args .piece .now) (c .before .before .before .before .before .before .before .before .before .before .before .before .before .before .before .before .args .out .now) (c .before .before .before .before .before .before .before .before .before .before .before .before .loop .l) (c .before .before .before .before .before .before .before .before .before .before .before .before .loop .store) (c .before .before .before .before .before .before .before .before .before .before .before .before .loop .out) (c .before .before .before .before .before .before .before .before .before .before .before .before .loop .i) (c .before .before .before .before .before .before .before .before .before .before .before .before .loop .end) (c .before .before .before .before .before .before .before .before .before .before .before .before .loop .inv .0) (c .before .before .before .before .before .before .advance .result) (c .before .before .before .before .before .before .advance .last .1 .0) (c .before .before .before .before .before .before .advance .last .1 .1 .1 .0) (omega (arith, c .before .before .before .before .before .before .before .before .before .before .if1 .left, c .before .before .before .before .before .before .before .before .before .before .before .before .loop .inv .2, c .before .before .before .before .before .before .before .before .before .before .before .before .loop .inv .0 .within)) (one-at (c .before .before .before .before .before .before)) (c .before .before .before .before .before .before .before .before .before .before .before .loop-test .taken))
+loop-less c =
+    let start = c .before .before .before .before .before .before .before .before .before .before .before .before .before .before .before .before in
+    let self = start .args .self in
+    let store = start .args .store .now in
+    let piece = start .args .piece .now in
+    let out = start .args .out .now in
+    let loop = c .before .before .before .before .before .before .before .before .before .before .before .before .loop in
+    let loop-test = c .before .before .before .before .before .before .before .before .before .before .before .loop-test in
+    let if1 = c .before .before .before .before .before .before .before .before .before .before .if1 in
+    let advance = c .before .before .before .before .before .before .advance in
+    omega (arith, turn-few self store piece out (loop .l) (loop .store) (loop .out) (loop .i) (loop .end) (loop .inv .0) (advance .result) (advance .last .1 .0) (advance .last .1 .1 .1 .0) (omega (arith, if1 .left, loop .inv .2, loop .inv .0 .within)) (one-at (c .before .before .before .before .before .before)), turn-some self store piece out (loop .l) (loop .store) (loop .out) (loop .i) (loop .end) (loop .inv .0) (advance .result) (advance .last .1 .0) (advance .last .1 .1 .1 .0) (omega (arith, if1 .left, loop .inv .2, loop .inv .0 .within)) (one-at (c .before .before .before .before .before .before)) (loop-test .taken))
 
 loop-again : tie.Need-loop-again Inv-loop μ-loop
 loop-again c =
-    let kept = c .before .before .before .before .before .before .advance .kept in
-    (sofar-turn (c .before .before .before .before .before .before .before .before .before .before .before .before .before .before .before .before .args .self) (c .before .before .before .before .before .before .before .before .before .before .before .before .before .before .before .before .args .store .now) (c .before .before .before .before .before .before .before .before .before .before .before .before .before .before .before .before .args .piece .now) (c .before .before .before .before .before .before .before .before .before .before .before .before .before .before .before .before .args .out .now) (c .before .before .before .before .before .before .before .before .before .before .before .before .loop .l) (c .before .before .before .before .before .before .before .before .before .before .before .before .loop .store) (c .before .before .before .before .before .before .before .before .before .before .before .before .loop .out) (c .before .before .before .before .before .before .before .before .before .before .before .before .loop .i) (c .before .before .before .before .before .before .before .before .before .before .before .before .loop .end) (c .before .before .before .before .before .before .before .before .before .before .before .before .loop .inv .0) (c .before .before .before .before .before .before .advance .result) (c .before .before .before .before .before .before .advance .last .1 .0) (c .before .before .before .before .before .before .advance .last .1 .1 .1 .0) (omega (arith, c .before .before .before .before .before .before .before .before .before .before .if1 .left, c .before .before .before .before .before .before .before .before .before .before .before .before .loop .inv .2, c .before .before .before .before .before .before .before .before .before .before .before .before .loop .inv .0 .within)) (one-at (c .before .before .before .before .before .before)) (c .before .before .before .before .before .before .before .before .before .before .before .before .loop .inv .2) (kept .1 .1 .1 .0), kept .1 .0 ∙ c .before .before .before .before .before .before .before .before .before .before .before .before .loop .inv .1, kept .1 .1 .1 .0 ∙ c .before .before .before .before .before .before .before .before .before .before .before .before .loop .inv .2)
+    let start = c .before .before .before .before .before .before .before .before .before .before .before .before .before .before .before .before in
+    let loop = c .before .before .before .before .before .before .before .before .before .before .before .before .loop in
+    let if1 = c .before .before .before .before .before .before .before .before .before .before .if1 in
+    let advance = c .before .before .before .before .before .before .advance in
+    let kept = advance .kept in
+    (sofar-turn (start .args .self) (start .args .store .now) (start .args .piece .now) (start .args .out .now) (loop .l) (loop .store) (loop .out) (loop .i) (loop .end) (loop .inv .0) (advance .result) (advance .last .1 .0) (advance .last .1 .1 .1 .0) (omega (arith, if1 .left, loop .inv .2, loop .inv .0 .within)) (one-at (c .before .before .before .before .before .before)) (loop .inv .2) (kept .1 .1 .1 .0), kept .1 .0 ∙ loop .inv .1, kept .1 .1 .1 .0 ∙ loop .inv .2)
 
 same-length-3 : tie.Need-same-length-3 Inv-loop μ-loop
 same-length-3 c = omega arith
@@ -73,7 +99,9 @@ same-length-4 : tie.Need-same-length-4 Inv-loop μ-loop
 same-length-4 c = omega arith
 
 returns-2 : tie.Need-returns-2 Inv-loop μ-loop
-returns-2 c = sofar-end (c .before .before .before .before .before .args .self) (c .before .before .before .before .before .args .store .now) (c .before .before .before .before .before .args .piece .now) (c .before .before .before .before .before .args .out .now) (c .before .loop .l) (c .before .loop .store) (c .before .loop .out) (c .before .loop .i) (c .before .loop .end) (c .before .loop .inv .0) (omega arith)
+returns-2 c =
+    let start = c .before .before .before .before .before in
+    sofar-end (start .args .self) (start .args .store .now) (start .args .piece .now) (start .args .out .now) (c .before .loop .l) (c .before .loop .store) (c .before .loop .out) (c .before .loop .i) (c .before .loop .end) (c .before .loop .inv .0) (omega arith)
 
 pub list-within-spec : {M : Type 1} → statement M
 list-within-spec =

@@ -3,7 +3,6 @@ use mathlib.Core.Path.{sym, ap}
 use Prim.Native.Nat.{_-_}
 use borrow.Author.Needs.{needs}
 use Rattle.receiver.specs.Step.{beyond}
-use Rattle.receiver.specs.Scan.{before}
 use Rattle.receiver.proofs.Receiver.is_beyond.Statement.{statement}
 use Rattle.receiver.proofs.Receiver.is_beyond.Tie as tie
 

@@ -4,7 +4,6 @@ use Prim.Native.Nat.{_-_, _≤_}
 use native.Mathlib.Omega.{arith}
 use borrow.Author.Needs.{needs}
 use Rattle.receiver.specs.Run.{countOf, moved}
-use Rattle.receiver.specs.Scan.{before}
 use Rattle.receiver.specs.declared.Receiver.the-variants.{Open}
 use Rattle.receiver.specs.declared.Receiver.{Receiver}
 use Rattle.receiver.proofs.Receiver.moved.Statement.{statement}
@@ -17,7 +16,9 @@ enum-known-self : tie.Need-enum-known-self
 enum-known-self c = search needs
 
 add-t5 : tie.Need-add-t5
-add-t5 c = let h : countOf (moved (Open (c .before .self .given .0 .0)) (c .before .before .before .args .k)) ≤ 4110 = rw (c .before .self .given .1) at (c .before .before .before .pre) in omega arith
+add-t5 c =
+    let start = c .before .before .before in
+    let h : countOf (moved (Open (c .before .self .given .0 .0)) (start .args .k)) ≤ 4110 = rw (c .before .self .given .1) at (start .pre) in omega arith
 
 returns : tie.Need-returns
 returns c = search needs

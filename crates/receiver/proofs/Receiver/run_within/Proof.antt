@@ -1,17 +1,15 @@
 -- The loop's invariant: stepping from here on, with i bytes taken before, is stepping over the whole piece.
-use mathlib.Core.Bool.{true, false}
 use mathlib.Core.List.{List}
 use mathlib.Core.Path.{_≡_, refl, sym, ap, _∙_, subst}
 use Prim.Native.Nat.{ℕ, _+_, _-_, _≤_}
 use native.Mathlib.Nat.{add-zero}
 use native.Mathlib.Omega.{arith}
 use lib.Seq.{take-all}
-use lib.ListN.{length, take, drop, getD, length-drop, drop-of-length-le}
+use lib.ListN.{length, drop, getD, length-drop, drop-of-length-le}
 use borrow.Author.Tests.{not-true, not-false}
 use Rattle.receiver.proofs.Running.{later-zero, run-within-is, step-good, turn-end, turn-stop, turn-more}
-use Rattle.receiver.specs.Run.{countOf, moved, ends, later, stepping, run, Passed}
+use Rattle.receiver.specs.Run.{countOf, moved, ends, later, stepping, Passed}
 use Rattle.receiver.specs.Step.{After, gives, step, paper}
-use Rattle.receiver.specs.Scan.{before}
 use Rattle.receiver.specs.declared.Receiver.{Receiver}
 use Rattle.frame.specs.Judge.{nothing}
 use Rattle.receiver.proofs.Receiver.run_within.Statement.{statement}
@@ -52,7 +50,9 @@ stepped-at m =
     ∙ ap (λ (q : Receiver). step q (p .pass .last .1 .0) (getD (p .before .before .before .before .before .before .before .args .piece .now) (l .i + p .pass .result) 0)) (m .before .before .before .before .moved .ensures)
 
 loop-holds : tie.Need-loop-holds Inv-loop μ-loop
-loop-holds c = (omega arith, c .before .before .pre .1, refl, sym (later-zero (stepping (c .before .before .args .self) (c .before .before .args .store .now) (c .before .before .args .piece .now))))
+loop-holds c =
+    let start = c .before .before in
+    (omega arith, start .pre .1, refl, sym (later-zero (stepping (start .args .self) (start .args .store .now) (start .args .piece .now))))
 
 sub-pass : tie.Need-sub-pass Inv-loop μ-loop
 sub-pass c = omega arith
@@ -77,8 +77,9 @@ same-length c = omega (arith, length-at (c .before .before .before .before))
 
 returns : tie.Need-returns Inv-loop μ-loop
 returns c =
+    let loop = c .before .before .before .before .before .before .before .before .loop in
     let m = c .before .before .before .before in
-    let l = c .before .before .before .before .before .before .before .before .loop in
+    let l = loop in
     let start = c .before .before .before .before .before .before .before .before .before .before .before in
     let a = start .args in
     let k : ℕ = m .pass .result in
@@ -93,8 +94,9 @@ shared-slice-read-advance c = omega (arith, within-at (c .before .before .before
 
 advance-requires : tie.Need-advance-requires Inv-loop μ-loop
 advance-requires c κs =
+    let start = c .before .before .before .before .before .before .before .before .before .before .before .before .before in
     let m = c .before .before .before .before .before .before in
-    (omega (arith, length-at m, c .before .before .before .before .before .before .before .before .before .before .before .before .before .pre .0), rw (c .before .before .before .moved .ensures) (passed-at m .count))
+    (omega (arith, length-at m, start .pre .0), rw (c .before .before .before .moved .ensures) (passed-at m .count))
 
 add-i-2 : tie.Need-add-i-2 Inv-loop μ-loop
 add-i-2 c = omega (arith, within-at (c .before .before .before .before .before .before .before .before .before))
@@ -106,41 +108,50 @@ count-requires : tie.Need-count-requires Inv-loop μ-loop
 count-requires c κs = tt
 
 same-length-2 : tie.Need-same-length-2 Inv-loop μ-loop
-same-length-2 c = omega (arith, length-at (c .before .before .before .before .before .before .before .before .before .before .before .before), c .before .before .before .before .before .advance .kept .1 .0)
+same-length-2 c =
+    let advance = c .before .before .before .before .before .advance in
+    omega (arith, length-at (c .before .before .before .before .before .before .before .before .before .before .before .before), advance .kept .1 .0)
 
 returns-2 : tie.Need-returns-2 Inv-loop μ-loop
 returns-2 c =
+    let loop = c .before .before .before .before .before .before .before .before .before .before .before .before .before .before .before .before .loop in
+    let the-moved = c .before .before .before .before .before .before .before .before .before .moved in
+    let if1 = c .before .before .before .before .before .before .before .before .if1 in
     let v = c .before .before .before .before .before in
     let m = v .before .before .before .before .before .before .before in
-    let l = c .before .before .before .before .before .before .before .before .before .before .before .before .before .before .before .before .loop in
+    let l = loop in
     let start = c .before .before .before .before .before .before .before .before .before .before .before .before .before .before .before .before .before .before .before in
     let a = start .args in
     let k : ℕ = m .pass .result in
     let x = v .advance in
-    ap (λ (h : ℕ). record { next = x .result .next; store = x .last .1 .0; told = paper (x .result .event); taken = l .i + k + 1; held = h }) (c .count .ensures ∙ ap countOf (c .before .before .before .before .before .before .before .before .before .moved .ensures))
+    ap (λ (h : ℕ). record { next = x .result .next; store = x .last .1 .0; told = paper (x .result .event); taken = l .i + k + 1; held = h }) (c .count .ensures ∙ ap countOf (the-moved .ensures))
     ∙ turn-stop (stepping (a .self) (a .store .now) (a .piece .now)) (l .now) (l .store) (a .piece .now) (l .i) k (m .pass .last .1 .0) (l .inv .3) (passed-at m)
-    (gives (x .result .next) (x .last .1 .0) (paper (x .result .event))) (omega (arith, within-at m, c .before .before .before .before .before .before .before .before .if1 .left)) (stepped-at v)
+    (gives (x .result .next) (x .last .1 .0) (paper (x .result .event))) (omega (arith, within-at m, if1 .left)) (stepped-at v)
     (sym (c .before .before .is-nothing .ensures) ∙ not-true (c .before .before .is-nothing .result) (c .before .if2 .taken))
     ∙ sym (run-within-is (a .self) (a .store .now) (a .piece .now) (start .pre .0) (start .pre .1))
 
 loop-less : tie.Need-loop-less Inv-loop μ-loop
-loop-less c = omega (arith, within-at (c .before .before .before .before .before .before .before .before .before .before .before), c .before .before .before .before .before .before .before .if1 .left)
+loop-less c =
+    let if1 = c .before .before .before .before .before .before .before .if1 in
+    omega (arith, within-at (c .before .before .before .before .before .before .before .before .before .before .before), if1 .left)
 
 loop-again : tie.Need-loop-again Inv-loop μ-loop
 loop-again c =
+    let loop = c .before .before .before .before .before .before .before .before .before .before .before .before .before .before .before .loop in
+    let if1 = c .before .before .before .before .before .before .before .if1 in
     let v = c .before .before .before .before in
     let m = v .before .before .before .before .before .before .before in
-    let l = c .before .before .before .before .before .before .before .before .before .before .before .before .before .before .before .loop in
+    let l = loop in
     let start = c .before .before .before .before .before .before .before .before .before .before .before .before .before .before .before .before .before .before in
     let a = start .args in
     let k : ℕ = m .pass .result in
     let x = v .advance in
     let st : List ℕ = m .pass .last .1 .0 in (
-      omega (arith, within-at m, c .before .before .before .before .before .before .before .if1 .left),
+      omega (arith, within-at m, if1 .left),
       subst (λ (y : After). countOf (y .next) ≤ 4110) (sym (stepped-at v)) (step-good (moved (l .now) k) st (getD (a .piece .now) (l .i + k) 0) (omega (arith, length-at m, start .pre .0)) (passed-at m .count)),
       x .kept .1 .0 ∙ length-at m,
       turn-more (stepping (a .self) (a .store .now) (a .piece .now)) (l .now) (l .store) (a .piece .now) (l .i) k st (l .inv .3) (passed-at m)
-          (gives (x .result .next) (x .last .1 .0) (paper (x .result .event))) (omega (arith, within-at m, c .before .before .before .before .before .before .before .if1 .left)) (stepped-at v)
+          (gives (x .result .next) (x .last .1 .0) (paper (x .result .event))) (omega (arith, within-at m, if1 .left)) (stepped-at v)
           (sym (c .before .is-nothing .ensures) ∙ not-false (c .before .is-nothing .result) (c .if2 .left)),
     )
 

@@ -46,8 +46,9 @@ same-length-2 c = search needs
 
 returns-4 : tie.Need-returns-4
 returns-4 c =
+    let self = c .before .before .before .before .before .before .self in
     let start = c .before .before .before .before .before .before .before .before .before .before in
-    c .before .before .open-step .ensures ∙ ap (λ (r : Receiver). step r (start .args .store .now) (start .args .byte)) (sym (c .before .before .before .before .before .before .self .given .1))
+    c .before .before .open-step .ensures ∙ ap (λ (r : Receiver). step r (start .args .store .now) (start .args .byte)) (sym (self .given .1))
 
 pub step-spec : {M : Type 1} → statement M
 step-spec =
