@@ -1,4 +1,4 @@
--- The paper's lines on records, computed: temperatures, currents, the two sides of 65 Ah, and 92H.
+-- The paper's lines on records, computed: the ends of the currents, the two sides of 65 Ah, and 92H.
 use mathlib.Core.Path.{_≡_, refl}
 use mathlib.Core.List.{[], _∷_}
 use lib.IntN.{pos, negsuc}
@@ -6,22 +6,10 @@ use mir.Syntax.{w16}
 use mir.Val.{toZ}
 use Rattle.codec.specs.Codec.{no}
 use Rattle.codec.specs.Whole.{told}
-use Rattle.record.specs.Meanings.{milliampsOf, tenthsCelsiusOf}
+use Rattle.record.specs.Meanings.{milliampsOf}
 use Rattle.record.specs.Capacities.{capacities}
 use Rattle.record.specs.Limits.{limits}
 use Rattle.record.specs.Infos.{limitsInfo}
-
--- temperature 0BAA: 25.5
-pub temperature-0BAA : tenthsCelsiusOf (toZ w16 0x0BAA) ≡ pos 255
-temperature-0BAA = refl
-
--- temperature 0A2F: -12.4
-pub temperature-0A2F : tenthsCelsiusOf (toZ w16 0x0A2F) ≡ negsuc 123
-temperature-0A2F = refl
-
--- current FFD8: -4,000 mA
-pub current-FFD8 : milliampsOf (toZ w16 0xFFD8) ≡ negsuc 3999
-current-FFD8 = refl
 
 -- current 8000: -3,276,800 mA
 pub current-8000 : milliampsOf (toZ w16 0x8000) ≡ negsuc 3276799
