@@ -1,7 +1,8 @@
 /*
- * layout.c - every field of every struct of hanuzak.h crosses to the archive and back.  Compiled as C11 and as C++17.
+ * layout.c - every field of every struct of hanuzak.h crosses to the archive and back, and its constants are what the archive
+ * means.  Compiled as C11 and as C++17.
  *
- * Each field gets a value of its own through the C struct, and must come out where the paper says: a record's fields at their
+ * Each field gets a value of its own through the C struct, and must come out where docs/PROTOCOL.md says: a record's fields at their
  * places of INFO, the others by what a known stream, question or reply gives.  It ends at the first field that is wrong.
  */
 #include "hanuzak.h"
@@ -10,7 +11,7 @@
 #include <stdlib.h>
 #include <string.h>
 
-enum { VER = 0x21, MASTER = 0x02, SECOND = 0x05, BATTERY = 0x46, GROUP = 0xFF, FLAG = 0x5A, CODE = 0xF0 };
+enum { VER = 0x21, MASTER = 0x02, SECOND = 0x05, SIXTH = 0x06, BATTERY = 0x46, GROUP = 0xFF, FLAG = 0x5A, CODE = 0xF0 };
 
 static unsigned long compared;
 
@@ -148,7 +149,7 @@ static void same_module(hanuzak_module module, hanuzak_module should)
         same_at("module.version", j, module.version[j], should.version[j]);
 }
 
-/* ---- written: the fields as bytes, in the paper's order */
+/* ---- written: the fields as bytes, in the order of INFO (PROTOCOL 9) */
 
 static uint8_t out[HANUZAK_LISTING + 200]; /* room for the lines of two events */
 static size_t  place; /* of the next byte of INFO in out */
@@ -293,6 +294,24 @@ static void group_written(void)
 
 /* ---- the table */
 
+/* Every field of a new record: counts of 1, on, and 0. */
+static void made(void)
+{
+    hanuzak_module should, m = hanuzak_module_new(SECOND);
+
+    memset(&should, 0, sizeof should);
+    should.adr = SECOND;
+    should.on = 1;
+    should.analog.cell_count = should.analog.temperature_count = 1;
+    should.alarm.cell_count = should.alarm.temperature_count = 1;
+    same_module(m, should);
+    for (unsigned adr = 0; adr < 256; adr++) {
+        m = hanuzak_module_new((uint8_t)adr);
+        SAME(m.adr, adr);
+        same_at("table of a new record", adr, hanuzak_table(&m, 1), adr < 0x80 && adr % 16 >= 2 && adr % 16 <= 13 ? 0 : 31);
+    }
+}
+
 /* The rule tells the three marks of a record apart from each other and from all else. */
 static void rule(void)
 {
@@ -434,14 +453,17 @@ static void ran(void)
     same_receiver(ran.next, 0, 0);
     same_header(ran.event);
     SAME(ran.taken, 30);
+    SAME(ran.held, 22);
     ran = hanuzak_run(ran.next, store, sizeof store, piece + 30, 10);
     same_receiver(ran.next, 0, 0);
     same_event(ran.event, 2, 3);
     SAME(ran.taken, 4);
+    SAME(ran.held, 2);
     ran = hanuzak_run(ran.next, store, sizeof store, piece + 34, 6);
     same_receiver(ran.next, 1, 5);
     same_event(ran.event, 0, 0);
     SAME(ran.taken, 6);
+    SAME(ran.held, 0);
 }
 
 /* ---- the listing */
@@ -709,10 +731,95 @@ static void signs(void)
     SAME(m.limits.status, 255);
 }
 
+/* ---- constants: the header's own, held to what the archive does */
+
+/* The return code that the stand-in gives to a stretch; module 06 has a link fault. */
+static uint8_t code_to(const char *stretch)
+{
+    hanuzak_module   table[4];
+    hanuzak_answered answered;
+
+    three(table);
+    table[3] = sample(SIXTH, 4);
+    table[3].link_fault = 1;
+    answered = hanuzak_answer(table, 4, station(), (const uint8_t *)stretch, strlen(stretch), out, sizeof out);
+    SAME(answered.kind, HANUZAK_REPLY);
+    return hanuzak_judge(out + 1, answered.length - 2).cid2;
+}
+
+static void codes(void)
+{
+    same("HANUZAK_CODE_NORMAL", code_to("21054642E00205FD2C"), HANUZAK_CODE_NORMAL);
+    same("HANUZAK_CODE_VER", code_to("20054642E00205FD2D"), HANUZAK_CODE_VER);
+    same("HANUZAK_CODE_CHKSUM", code_to("21054642E00205FD20"), HANUZAK_CODE_CHKSUM);
+    same("HANUZAK_CODE_LCHKSUM", code_to("21054642D00205FD2C"), HANUZAK_CODE_LCHKSUM);
+    same("HANUZAK_CODE_CID2", code_to("21054647E00205FD27"), HANUZAK_CODE_CID2);
+    same("HANUZAK_CODE_FORMAT", code_to("21054542E00205FD2D"), HANUZAK_CODE_FORMAT);
+    same("HANUZAK_CODE_DATA", code_to("21054642E002FFFD05"), HANUZAK_CODE_DATA);
+    same("HANUZAK_CODE_ADR", code_to("21054642E00202FD2F"), HANUZAK_CODE_ADR);
+    same("HANUZAK_CODE_LINK", code_to("21064642E00206FD2A"), HANUZAK_CODE_LINK);
+}
+
+/* Each command is served, with INFO of its own length. */
+static void commands(void)
+{
+    const uint8_t  all[] = { HANUZAK_ANALOG, HANUZAK_ALARM, HANUZAK_MAKER, HANUZAK_LIMITS, HANUZAK_SERIAL, HANUZAK_SOFTWARE };
+    const size_t   bytes[] = { 69, 34, 32, 10, 17, 6 };
+    hanuzak_module table[3];
+
+    three(table);
+    for (size_t i = 0; i < sizeof all; i++)
+        same_answered(answer(table, 3, question(MASTER, all[i], MASTER)), HANUZAK_REPLY, 0, 18 + 2 * bytes[i]);
+    same("HANUZAK_GROUP", answer(table, 3, question(MASTER, HANUZAK_ANALOG, HANUZAK_GROUP)).length, 18 + 2 * (2 + 2 * 67));
+    same("HANUZAK_CID1", hanuzak_judge(out + 1, 16 + 2 * (2 + 2 * 67)).cid1, HANUZAK_CID1);
+    same_answered(answer(table, 3, question(MASTER, HANUZAK_TURN_OFF, MASTER)), HANUZAK_REPLY, 0, 18);
+    SAME(table[0].on, 0);
+    same("HANUZAK_PROTOCOL", code_to("2005464F0000FD95"), HANUZAK_CODE_NORMAL);
+}
+
+/* Each number has words of its own, and no other number has any. */
+static void refusals(void)
+{
+    for (uint32_t number = 0; number < 300; number++) {
+        int is_one = (number >= 1 && number <= 8) || (number >= 11 && number <= 23) || (number >= 31 && number <= 35);
+
+        same_at("hanuzak_refusal", number, strcmp(hanuzak_refusal(number), "no refusal") != 0, is_one);
+        for (uint32_t other = 0; is_one && other < number; other++)
+            same_at("hanuzak_refusal", number, strcmp(hanuzak_refusal(number), hanuzak_refusal(other)) != 0, 1);
+    }
+    SAME(HANUZAK_REFUSAL_CHKSUM_DIFFERS, hanuzak_judge((const uint8_t *)"21054642E00205FD20", 18).number);
+    SAME(HANUZAK_REFUSAL_TABLE_BREAKS_RULE, hanuzak_table(NULL, 0));
+    SAME(HANUZAK_REFUSAL_RECEIVER_BEYOND_STORE, 35);
+}
+
 static void meanings(void)
 {
     same("tenths_celsius", hanuzak_tenths_celsius(0x0A2F), -124);
     same("milliamps", hanuzak_milliamps(INT16_MIN), -3276800);
+}
+
+/* After a refusal, and after a reply that changes no record, not one byte of the lent table differs, its padding neither. */
+static void untouched(void)
+{
+    static const size_t padding[] = {3, 5, 39, 70, 71, 115, 137, 138, 139};
+    const hanuzak_question asked = question(SECOND, 0x42, SECOND);
+    hanuzak_module         table[3];
+    uint8_t                before[sizeof table];
+
+    three(table);
+    table[2].link_fault = 1;
+    for (size_t i = 0; i < 3; i++)
+        for (size_t j = 0; j < sizeof padding / sizeof padding[0]; j++) ((uint8_t *)&table[i])[padding[j]] = 0xAA;
+    memcpy(before, table, sizeof table);
+    same_answered(answer(table, 3, asked), HANUZAK_REPLY, 0, 18);
+    same_reply(hanuzak_read_reply(table, 3, asked, out + 1, 16), VER, 0x91, 0);
+    same("bytes after code 91H", memcmp(table, before, sizeof table), 0);
+    same_refused(hanuzak_read_reply(table, 3, asked, out + 1, 15), 3);
+    same("bytes after 3", memcmp(table, before, sizeof table), 0);
+    same_refused(hanuzak_read_reply(table, 3, question(MASTER, 0x42, MASTER), out + 1, 16), 11);
+    same("bytes after 11", memcmp(table, before, sizeof table), 0);
+    same_refused(hanuzak_read_reply(table, 3, question(SECOND, 0x42, MASTER), out + 1, 16), 34);
+    same("bytes after 34", memcmp(table, before, sizeof table), 0);
 }
 
 int main(void)
@@ -721,6 +828,8 @@ int main(void)
     alarm_written();
     others_written();
     group_written();
+    made();
+    untouched();
     rule();
     moved();
     frame_written();
@@ -733,7 +842,10 @@ int main(void)
     group_read();
     marks();
     signs();
+    codes();
+    commands();
+    refusals();
     meanings();
-    printf("layout: every field crosses (%lu compared)\n", compared);
+    printf("layout: every field crosses, and each constant holds (%lu compared)\n", compared);
     return EXIT_SUCCESS;
 }

@@ -1,7 +1,8 @@
 /*
- * cells.c - what modules say of their cells.  Reads a capture of the line from standard input.
+ * cells.c - what modules say of their cells.  Reads the line or a capture of it from standard input, and prints each reading as
+ * soon as its reply has come.
  *
- *     cells [ADR..] < capture        the modules' ADRs in hex, rising; 02 where none is given
+ *     cells [--all-42] [ADR..] < capture        the modules' ADRs in hex, rising; 02 where none is given
  *
  * A reply does not name its command, so the command is taken from the line.  A frame whose CID2 is no return code is a question.
  * A frame with a return code answers the question before it, and is read where that one was 42H to a module that was named.
@@ -11,8 +12,12 @@
  * A reply to Command FFH at the master has a record for each module that is on and names none.  It is read where they are as many
  * as were named, and otherwise refused with 22.  So name those that are on, all of them, where such replies are to be read.
  *
+ * --all-42 is for a capture of replies alone, as from a wire that only receives: it takes every reply of a module that was named
+ * as one to 42H, with the Command that stands in it.  THE RISK: nothing tells a reply to another command apart.  Most are refused,
+ * but one whose bytes happen to fit is printed as values that the module never sent (PROTOCOL 8.14).
+ *
  * A value is printed only from a reply that was read with code 00H.  Every refusal has its place in the capture (the offset of
- * the SOI), its number and the paper's reason.  The last line begins with "readings"; without it the output is incomplete.
+ * the SOI), its number and its words.  The last line begins with "readings"; without it the output is incomplete.
  */
 #include "hanuzak.h"
 
@@ -20,14 +25,13 @@
 #include <stdio.h>
 #include <stdlib.h>
 #include <string.h>
-
-enum { PIECE = 1 << 16, SOI = 0x7E, BATTERY = 0x46, ANALOG = 0x42, GROUP = 0xFF };
-enum { FRAME = 1, REFUSED = 2 }; /* kinds of an event and of a reply */
+#include <unistd.h>
 
 /* The question that is open: none, one that is not for us, ours, or ours with a reply that was refused. */
 enum asked { NONE, OTHER, OURS, OURS_REFUSED };
 
 struct line {
+    int              all_42;
     hanuzak_module   table[HANUZAK_MODULES];
     size_t           modules;
     hanuzak_receiver receiver;
@@ -39,38 +43,9 @@ struct line {
     unsigned long    readings, without_values, refused_replies, refused_stretches;
 };
 
-static const char *const reasons[] = {
-    [1] = "a 4,111th character",
-    [2] = "SOI inside an open frame",
-    [3] = "fewer than 16 characters",
-    [4] = "a character that is not hex",
-    [5] = "LCHKSUM differs",
-    [6] = "LENID is odd",
-    [7] = "the count is not 16 + LENID",
-    [8] = "CHKSUM differs",
-    [11] = "ADR is not the one asked",
-    [12] = "CID1 is not 46H",
-    [13] = "not a return code",
-    [14] = "INFO beside a code other than 00H",
-    [15] = "cell count not 1 to 16, or temperature count not 1 to 8",
-    [16] = "INFO ends before a needed byte",
-    [17] = "bytes left over, or a thirteenth record",
-    [18] = "user defined items neither 2 nor 4",
-    [19] = "the capacities break the 65 Ah rule",
-    [20] = "an alarm code that is none",
-    [21] = "the Command byte is not the one asked",
-    [22] = "the number of records is not that of the members that are on",
-    [23] = "ADR is not in the table",
-    [31] = "the table breaks its rule",
-    [32] = "a lent buffer is too short",
-    [33] = "a value that the rules can't encode",
-    [34] = "the command asked is not served, or its Command is neither ADR nor FFH at the master",
-    [35] = "a receiver with a count above 4,110",
-};
-
 static void print_refusal(uint64_t at, const char *what, uint32_t number)
 {
-    printf("at %" PRIu64 ": %s refused, %" PRIu32 ": %s\n", at, what, number, reasons[number]);
+    printf("at %" PRIu64 ": %s refused, %" PRIu32 ": %s\n", at, what, number, hanuzak_refusal(number));
 }
 
 /* ---- readings */
@@ -95,13 +70,14 @@ static void print_module(const hanuzak_module *module)
     printf("  voltage, mV: %u\n", analog->voltage);
     printf("  remaining, mAh: %" PRIu32 "\n", analog->remaining);
     printf("  total, mAh: %" PRIu32 "\n", analog->total);
+    printf("  cycles: %u\n", analog->cycles);
 }
 
 /* The modules whose records the reply replaced. */
 static void print_reading(const struct line *line, uint64_t at)
 {
     for (size_t i = 0; i < line->modules; i++)
-        if (line->question.command == GROUP || line->question.adr == line->table[i].adr) {
+        if (line->question.command == HANUZAK_GROUP || line->question.adr == line->table[i].adr) {
             printf("at %" PRIu64 ": ", at);
             print_module(&line->table[i]);
         }
@@ -111,13 +87,19 @@ static void print_reading(const struct line *line, uint64_t at)
 
 static int is_return_code(uint8_t cid2)
 {
-    return cid2 <= 0x06 || cid2 == 0x90 || cid2 == 0x91;
+    return cid2 <= HANUZAK_CODE_DATA || cid2 == HANUZAK_CODE_ADR || cid2 == HANUZAK_CODE_LINK;
 }
 
 /* The value of a character that was judged to be hex. */
 static uint8_t digit(uint8_t c)
 {
     return (uint8_t)(c <= '9' ? c - '0' : c - 'A' + 10);
+}
+
+/* A byte of INFO, whose characters stand in the store from place 12 on. */
+static uint8_t info_byte(const struct line *line, size_t at)
+{
+    return (uint8_t)(digit(line->store[12 + 2 * at]) << 4 | digit(line->store[13 + 2 * at]));
 }
 
 static int is_named(const struct line *line, uint8_t adr)
@@ -139,12 +121,10 @@ static void take_question(struct line *line, uint64_t at, hanuzak_event frame)
 {
     close_question(line);
     line->asked = OTHER;
-    if (is_named(line, frame.adr) && frame.cid1 == BATTERY && frame.cid2 == ANALOG && frame.lenid == 2) {
+    if (is_named(line, frame.adr) && frame.cid1 == HANUZAK_CID1 && frame.cid2 == HANUZAK_ANALOG && frame.lenid == 2) {
         line->asked = OURS;
         line->asked_at = at;
-        line->question.adr = frame.adr;
-        line->question.cid2 = frame.cid2;
-        line->question.command = (uint8_t)(digit(line->store[12]) << 4 | digit(line->store[13]));
+        line->question = (hanuzak_question){.adr = frame.adr, .cid2 = frame.cid2, .command = info_byte(line, 0)};
     }
 }
 
@@ -152,14 +132,14 @@ static void read_reply(struct line *line, uint64_t at, size_t characters)
 {
     hanuzak_reply reply = hanuzak_read_reply(line->table, line->modules, line->question, line->store, characters);
 
-    if (reply.kind == REFUSED) {
+    if (reply.kind == HANUZAK_REFUSED) {
         print_refusal(at, "reply", reply.number);
         line->refused_replies++;
         line->asked = OURS_REFUSED;
         return;
     }
     line->asked = NONE;
-    if (reply.code != 0) {
+    if (reply.code != HANUZAK_CODE_NORMAL) {
         printf("at %" PRIu64 ": return code %02X, no values\n", at, reply.code);
         line->without_values++;
         return;
@@ -168,9 +148,22 @@ static void read_reply(struct line *line, uint64_t at, size_t characters)
     line->readings++;
 }
 
+/* A reply without its question: INFO is the flag, Command and the records.  Only the master replies for the group. */
+static void take_as_42(struct line *line, uint64_t at, hanuzak_event frame)
+{
+    int group = frame.lenid >= 4 && info_byte(line, 1) == HANUZAK_GROUP && frame.adr % 16 == 2;
+
+    if (!is_named(line, frame.adr))
+        return;
+    line->question = (hanuzak_question){.adr = frame.adr, .cid2 = HANUZAK_ANALOG, .command = group ? HANUZAK_GROUP : frame.adr};
+    read_reply(line, at, 16 + frame.lenid);
+}
+
 static void take_reply(struct line *line, uint64_t at, hanuzak_event frame)
 {
-    if (line->asked == OURS || line->asked == OURS_REFUSED)
+    if (line->all_42)
+        take_as_42(line, at, frame);
+    else if (line->asked == OURS || line->asked == OURS_REFUSED)
         read_reply(line, at, 16 + frame.lenid);
     else if (line->asked == OTHER)
         line->asked = NONE;
@@ -180,23 +173,14 @@ static void take_reply(struct line *line, uint64_t at, hanuzak_event frame)
 
 /* ---- the stream */
 
-/* The offset of the SOI that opened the stretch: the last one before the event's byte, in this piece or before it. */
-static uint64_t soi_of(hanuzak_receiver before, uint64_t offset, const uint8_t *piece, size_t taken)
-{
-    for (size_t i = taken - 1; i > 0; i--)
-        if (piece[i - 1] == SOI)
-            return offset + i - 1;
-    return offset - before.count - 1;
-}
-
 static void take_event(struct line *line, uint64_t at, hanuzak_event event)
 {
-    if (event.kind == REFUSED) {
+    if (event.kind == HANUZAK_REFUSED) {
         print_refusal(at, "stretch", event.number);
         line->refused_stretches++;
     } else if (is_return_code(event.cid2)) {
         take_reply(line, at, event);
-    } else {
+    } else if (!line->all_42) {
         take_question(line, at, event);
     }
 }
@@ -206,29 +190,17 @@ static void take_piece(struct line *line, const uint8_t *piece, size_t n)
 {
     while (n > 0) {
         hanuzak_ran ran = hanuzak_run(line->receiver, line->store, sizeof line->store, piece, n);
-        if (ran.event.kind != 0)
-            take_event(line, soi_of(line->receiver, line->offset, piece, ran.taken), ran.event);
         line->receiver = ran.next;
         line->offset += ran.taken;
         piece += ran.taken;
         n -= ran.taken;
+        /* before the event's byte, the last one taken, came the characters that were held, and before them SOI */
+        if (ran.event.kind != HANUZAK_NOTHING)
+            take_event(line, line->offset - 1 - ran.held - 1, ran.event);
     }
 }
 
 /* ---- the program */
-
-/* A module that is on.  A record must be one that can be sent: so one cell and one temperature, until the first reply. */
-static hanuzak_module module_at(uint8_t adr)
-{
-    hanuzak_module module;
-
-    memset(&module, 0, sizeof module);
-    module.adr = adr;
-    module.on = 1;
-    module.analog.cell_count = module.alarm.cell_count = 1;
-    module.analog.temperature_count = module.alarm.temperature_count = 1;
-    return module;
-}
 
 /* Whether the text is one or two hex digits, and which byte they say. */
 static int hex_byte(const char *text, uint8_t *byte)
@@ -251,10 +223,10 @@ static int name_modules(struct line *line, int count, char **names)
     for (int i = 0; i < count; i++) {
         if (!hex_byte(names[i], &adr))
             return 0;
-        line->table[i] = module_at(adr);
+        line->table[i] = hanuzak_module_new(adr);
     }
     if (count == 0)
-        line->table[0] = module_at(adr);
+        line->table[0] = hanuzak_module_new(adr);
     line->modules = count == 0 ? 1 : (size_t)count;
     return hanuzak_table(line->table, line->modules) == 0;
 }
@@ -262,18 +234,27 @@ static int name_modules(struct line *line, int count, char **names)
 int main(int argc, char **argv)
 {
     static struct line line;
-    static uint8_t     piece[PIECE];
-    size_t             got;
+    static uint8_t     piece[1 << 16];
+    ssize_t            got;
 
-    if (!name_modules(&line, argc - 1, argv + 1)) {
-        fprintf(stderr, "usage: cells [ADR..] < capture\n"
-                        "one to twelve ADRs in hex, rising, of one group: 02 to 0D, 12 to 1D, up to 72 to 7D\n");
+    line.all_42 = argc > 1 && strcmp(argv[1], "--all-42") == 0;
+    if (!name_modules(&line, argc - 1 - line.all_42, argv + 1 + line.all_42)) {
+        fprintf(stderr, "usage: cells [--all-42] [ADR..] < capture\n"
+                        "one to twelve ADRs in hex, rising, of one group: 02 to 0D, 12 to 1D, up to 72 to 7D\n"
+                        "--all-42  take every reply as one to 42H: for captures without questions.  A reply to another\n"
+                        "          command is then refused or, where its bytes happen to fit, printed as wrong values\n");
         return EXIT_FAILURE;
     }
     line.receiver = hanuzak_receiver_new();
-    while ((got = fread(piece, 1, sizeof piece, stdin)) > 0)
-        take_piece(&line, piece, got);
-    if (ferror(stdin)) {
+    /* read() gives what has come so far; a buffered read would wait for more */
+    while ((got = read(STDIN_FILENO, piece, sizeof piece)) > 0) {
+        take_piece(&line, piece, (size_t)got);
+        if (fflush(stdout) != 0) {
+            perror("cells: write");
+            return EXIT_FAILURE;
+        }
+    }
+    if (got < 0) {
         perror("cells: read");
         return EXIT_FAILURE;
     }

@@ -1,76 +1,73 @@
 /*
- * stand_in.c - stands in for three modules.  Reads the line from standard input, byte by byte as from a port, and writes each reply
- * to standard output as it goes to the line.
+ * stand_in.c - stands in for the modules of a table.  Reads the line from standard input, and writes each reply to standard output
+ * as soon as its question has come.
  *
- *     stand_in < questions
+ *     stand_in [TABLE] < questions        TABLE is a text file, see table.h; without one there are modules 02, 03 and 04, VER 20
  *
- * The modules are 02 (the master), 03 and 04, with VER 20.  A module that is turned off (95H) stays silent until the program ends.
+ * On a port, here with 9,600 baud (raw, as a terminal would change CR and echo what it gets):
+ *
+ *     stty -F /dev/ttyUSB0 9600 raw -echo && stand_in table.txt < /dev/ttyUSB0 > /dev/ttyUSB0
+ *
+ * A module that is turned off (95H) stays silent until the program ends.
  */
 #include "hanuzak.h"
+#include "table.h"
 
 #include <stdio.h>
-#include <string.h>
+#include <stdlib.h>
+#include <unistd.h>
 
-enum { FRAME = 1, REFUSED = 2, REPLY = 1 };          /* kinds of an event and of an answer */
-enum { TOO_SHORT = 3, CHKSUM_DIFFERS = 8 };          /* what the judge of a stretch refuses */
-enum { MODULES = 3, MASTER = 0x02, CELLS = 15, TEMPERATURES = 5 };
-
-/* A module that is on, with values as they may be at rest. */
-static hanuzak_module module_at(uint8_t adr)
+/* A stretch that is no frame may have an answer too, with the code that says why: so all that a CR has closed is answered. */
+static int was_judged(hanuzak_event event)
 {
-    hanuzak_module module;
-    memset(&module, 0, sizeof module);
-    module.adr = adr;
-    module.on = 1;
-    module.analog.cell_count = module.alarm.cell_count = CELLS;
-    module.analog.temperature_count = module.alarm.temperature_count = TEMPERATURES;
-    for (int i = 0; i < CELLS; i++) module.analog.cells[i] = 3400;
-    for (int i = 0; i < TEMPERATURES; i++) module.analog.temperatures[i] = 2731 + 250;
-    module.analog.voltage = CELLS * 3400;
-    module.analog.remaining = 40000;
-    module.analog.total = 50000;
-    module.limits.charge_voltage = 53250;
-    module.limits.discharge_voltage = 47000;
-    module.limits.charge_current = module.limits.discharge_current = 250;
-    memcpy(module.serial, "EXAMPLE-00000000", sizeof module.serial);
-    module.serial[15] = (uint8_t)('0' + adr);
-    return module;
+    return event.kind == HANUZAK_FRAME
+           || (event.kind == HANUZAK_REFUSED && event.number >= HANUZAK_REFUSAL_TOO_SHORT
+               && event.number <= HANUZAK_REFUSAL_CHKSUM_DIFFERS);
 }
 
-int main(void)
+static int answer(struct table *table, const uint8_t *stretch, size_t length)
 {
-    static uint8_t store[HANUZAK_STORE], reply[HANUZAK_ANSWER];
-    hanuzak_module table[MODULES];
-    for (int i = 0; i < MODULES; i++) table[i] = module_at((uint8_t)(MASTER + i));
-    hanuzak_station station = {.ver = 0x20, .maker = {0}};
-    memcpy(station.maker, "EXAMPLE", 7);
-    if (hanuzak_table(table, MODULES) != 0) {
-        fputs("stand_in: the table breaks its rule\n", stderr);
-        return 1;
-    }
+    static uint8_t   reply[HANUZAK_ANSWER];
+    hanuzak_answered answered
+        = hanuzak_answer(table->modules, table->count, table->station, stretch, length, reply, sizeof reply);
 
-    hanuzak_receiver receiver = hanuzak_receiver_new();
-    for (int c; (c = getchar()) != EOF;) {
-        size_t count = receiver.count;
-        hanuzak_stepped stepped = hanuzak_step(receiver, store, sizeof store, (uint8_t)c);
-        hanuzak_event event = stepped.event;
-        receiver = stepped.next;
-        /* a stretch that is no frame may have an answer too: it is what stood in the store when the CR came */
-        int judged = event.kind == FRAME || (event.kind == REFUSED && event.number >= TOO_SHORT && event.number <= CHKSUM_DIFFERS);
-        if (!judged) continue;
-        hanuzak_answered answered = hanuzak_answer(table, MODULES, station, store, count, reply, sizeof reply);
-        if (answered.kind == REFUSED) {
-            fprintf(stderr, "stand_in: refused, %u\n", (unsigned)answered.number);
-            return 1;
-        }
-        if (answered.kind == REPLY && (fwrite(reply, 1, answered.length, stdout) != answered.length || fflush(stdout) != 0)) {
-            perror("stand_in: write");
-            return 1;
-        }
+    if (answered.kind == HANUZAK_REFUSED) {
+        fprintf(stderr, "stand_in: refused, %u: %s\n", (unsigned)answered.number, hanuzak_refusal(answered.number));
+        return 0;
     }
-    if (ferror(stdin)) {
+    if (answered.kind == HANUZAK_REPLY
+        && (fwrite(reply, 1, answered.length, stdout) != answered.length || fflush(stdout) != 0)) {
+        perror("stand_in: write");
+        return 0;
+    }
+    return 1;
+}
+
+int main(int argc, char **argv)
+{
+    static struct table table;
+    static uint8_t      store[HANUZAK_STORE], piece[4096];
+    hanuzak_receiver    receiver = hanuzak_receiver_new();
+    ssize_t             got;
+
+    if (argc > 2) {
+        fputs("usage: stand_in [TABLE] < questions\n", stderr);
+        return EXIT_FAILURE;
+    }
+    if (!read_table(&table, argc == 2 ? argv[1] : NULL))
+        return EXIT_FAILURE;
+    /* read() gives what has come so far; a buffered read would wait for more */
+    while ((got = read(STDIN_FILENO, piece, sizeof piece)) > 0)
+        for (size_t at = 0; at < (size_t)got;) {
+            hanuzak_ran ran = hanuzak_run(receiver, store, sizeof store, piece + at, (size_t)got - at);
+            receiver = ran.next;
+            at += ran.taken;
+            if (was_judged(ran.event) && !answer(&table, store, ran.held))
+                return EXIT_FAILURE;
+        }
+    if (got < 0) {
         perror("stand_in: read");
-        return 1;
+        return EXIT_FAILURE;
     }
-    return 0;
+    return EXIT_SUCCESS;
 }

@@ -20,9 +20,9 @@ paper (Wrote n) = wrote n
 paper (Refused r) = refused (number r)
 
 -- how many bytes were written: none with a refusal
-abbrev pub lengthOf : Outcome → ℕ
-lengthOf (wrote n) = n
-lengthOf (refused k) = 0
+abbrev pub lengthWritten : Outcome → ℕ
+lengthWritten (wrote n) = n
+lengthWritten (refused k) = 0
 
 -- the outcome, and the buffer then
 pub record Left : Type 0 where

@@ -25,6 +25,27 @@ formOf cid2 command =
     (cond (eqb cid2 0x42) AnalogGroup (cond (eqb cid2 0x44) AlarmGroup (kindOf cid2)))
     (kindOf cid2)
 
+-- what a kind is on paper: its CID2, 0 for what is not served, and whether it is the form with Command FFH
+pub record Form : Type 0 where
+  pub cid2 : ℕ
+  pub group : Bool
+
+abbrev form : ℕ → Bool → Form
+form cid2 group = record { cid2 = cid2; group = group }
+
+unfoldable pub paper : Kind → Form
+paper Analog = form 0x42 false
+paper AnalogGroup = form 0x42 true
+paper Alarm = form 0x44 false
+paper AlarmGroup = form 0x44 true
+paper Protocol = form 0x4F false
+paper Maker = form 0x51 false
+paper Limits = form 0x92 false
+paper Serial = form 0x93 false
+paper TurnOff = form 0x95 false
+paper Version = form 0x96 false
+paper Unserved = form 0 false
+
 -- a command with a Command byte, which may be FFH at the master with 42H and 44H
 abbrev pub withCommand : Bool → Terms
 withCommand group = record { served = true; «same_ver» = true; lenid = 2; «has_command» = true; «has_group» = group }

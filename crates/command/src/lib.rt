@@ -63,13 +63,11 @@ pub fn form_of(cid2: u8, command: u8) -> Kind
     if command != 0xFF {
         return kind_of(cid2);
     }
-    if cid2 == 0x42 {
-        return Kind::AnalogGroup;
+    match cid2 {
+        0x42 => Kind::AnalogGroup,
+        0x44 => Kind::AlarmGroup,
+        _ => kind_of(cid2),
     }
-    if cid2 == 0x44 {
-        return Kind::AlarmGroup;
-    }
-    kind_of(cid2)
 }
 
 fn with_command(group: bool) -> Terms
@@ -100,16 +98,10 @@ pub fn terms_of(kind: Kind) -> Terms
     ensures { λ r. ⌜ r ≡ termsOf kind ⌝ }
 {
     match kind {
-        Kind::Analog => with_command(true),
-        Kind::AnalogGroup => with_command(true),
-        Kind::Alarm => with_command(true),
-        Kind::AlarmGroup => with_command(true),
+        Kind::Analog | Kind::AnalogGroup | Kind::Alarm | Kind::AlarmGroup => with_command(true),
+        Kind::Limits | Kind::Serial | Kind::TurnOff | Kind::Version => with_command(false),
         Kind::Protocol => plain(true, false),
         Kind::Maker => plain(true, true),
-        Kind::Limits => with_command(false),
-        Kind::Serial => with_command(false),
-        Kind::TurnOff => with_command(false),
-        Kind::Version => with_command(false),
         Kind::Unserved => plain(false, true),
     }
 }

@@ -1,2 +1,3 @@
 pub mod Serving
 pub mod Ones
+pub mod Stored

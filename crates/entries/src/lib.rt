@@ -8,18 +8,18 @@ ghost use Rattle.groups.specs.Groups.{analogGroupWriting, alarmGroupWriting};
 ghost use Rattle.standin.specs.Answer.{answer};
 ghost use Rattle.reply.specs.Read.{readReply};
 ghost use Rattle.flat.specs.Flat.{FlatWrites};
-ghost use Rattle.entries.specs.Entries.{Serves, ReadsFlat};
+ghost use Rattle.entries.specs.Entries.{Serves, carriesRecords, storedOf, ReadsFlat};
 use flat::FlatAnswered;
 use flat::FlatReply;
 use flat::FlatWritten;
-use gate::Question;
+use reply::gate::Question;
 use table::Station;
 use table::Table;
 
 pub fn rule_number(given: Table) -> u8
     ensures { λ r. ⌜ r ≡ cond (keeps given) 0 31 ⌝ }
 {
-    if rules::keeps_rule(given) {
+    if table::rule::keeps_rule(given) {
         return 0;
     }
     31
@@ -44,30 +44,45 @@ pub struct Served {
 }
 
 pub fn serve(station: Station, given: Table, stretch: &[u8], out: &mut [u8]) -> Served
-    ensures { λ r. ⌜ Serves (answer (keeps given) station (members given) (now (stretch .entry)) (now (out .entry))) (given .count) r (now (out .exit)) ⌝ }
+    ensures { λ r. ⌜ Serves (answer (keeps given) (given .count) station (members given) (now (stretch .entry)) (now (out .entry))) r (now (out .exit)) ⌝ }
 {
-    let count = given.count;
     let replied = standin::answer(station, given, stretch, out);
-    let off = replied.off;
     let said = replied.answered;
-    let answered = flat::answered(said);
-    if off < 12 {
-        return Served { answered, off };
-    }
     Served {
-        answered,
-        off: count,
+        answered: flat::answered(said),
+        off: replied.off,
     }
 }
 
-// That, and the table then.
+// What the reply reader tells, how many records of the lent table are to be stored, and the table then.
 pub struct ReadReply {
     pub reply: FlatReply,
+    pub stored: usize,
     pub table: Table,
 }
 
+// Whether a command's reply carries records.
+fn carries_records(cid2: u8) -> bool
+    ensures { λ r. ⌜ r ≡ carriesRecords cid2 ⌝ }
+{
+    (cid2 == 0x42) | ((cid2 == 0x44) | ((cid2 == 0x92) | ((cid2 == 0x93) | (cid2 == 0x96))))
+}
+
+// How many records are to be stored. None where none changes: a record that is stored again has the same values, but the bytes between its
+// fields need not be the same, and a refusal changes no lent byte.
+fn to_store(count: usize, cid2: u8, reply: FlatReply) -> usize
+    ensures { λ r. ⌜ r ≡ storedOf count cid2 reply ⌝ }
+{
+    let read = (reply.kind == 1) & (reply.code == 0);
+    let changed = read & carries_records(cid2);
+    if changed {
+        return count;
+    }
+    0
+}
+
 pub fn read_flat(given: Table, question: Question, stretch: &[u8]) -> ReadReply
-    ensures { λ r. ⌜ ReadsFlat (readReply (keeps given) (members given) question (now (stretch .entry))) given r ⌝ }
+    ensures { λ r. ⌜ ReadsFlat (readReply (keeps given) (members given) question (now (stretch .entry))) (question .cid2) given r ⌝ }
 {
     let done = reply::read(given, question, stretch);
     let outcome = done.outcome;
@@ -76,6 +91,7 @@ pub fn read_flat(given: Table, question: Question, stretch: &[u8]) -> ReadReply
     let reply = flat::reply(outcome, maker);
     ReadReply {
         reply,
+        stored: to_store(given.count, question.cid2, reply),
         table: after,
     }
 }

@@ -14,7 +14,7 @@ pub enum Next {
 }
 
 // The byte at a place.
-pub fn byte_from(info: &[u8], at: usize) -> Next
+fn byte_from(info: &[u8], at: usize) -> Next
     ensures { λ r. ⌜ paper r ≡ reads byte 0 (unhexes (now (info .entry))) at ⌝ }
 {
     if at < info.len() / 2 {
@@ -24,7 +24,7 @@ pub fn byte_from(info: &[u8], at: usize) -> Next
 }
 
 // The word at a place.
-pub fn word_from(info: &[u8], at: usize) -> Next
+fn word_from(info: &[u8], at: usize) -> Next
     ensures { λ r. ⌜ paper r ≡ reads word 0 (unhexes (now (info .entry))) at ⌝ }
 {
     let count = info.len() / 2;

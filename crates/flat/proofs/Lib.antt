@@ -1,3 +1,5 @@
 pub mod Flat
 pub mod Lists
 pub mod Ones
+pub mod Demand
+pub mod Made

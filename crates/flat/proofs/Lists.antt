@@ -9,10 +9,10 @@ use Rattle.listing.specs.Piece.{Call, list, Lists}
 use Rattle.flat.specs.declared.FlatListing.{FlatListing}
 use Rattle.flat.specs.declared.FlatListed.{FlatListed}
 use Rattle.flat.specs.Flat.{writtenOf}
-use Rattle.flat.specs.Listing.{flatListing, listingOf, listedOf, FlatLists}
+use Rattle.flat.specs.Listing.{flatListing, listingBack, listedOf, FlatLists}
 
-pub flat-lists : (flat : FlatListing) (l : Listing) (store piece out : List ℕ) (a : Listed) (store′ out′ : List ℕ) (r : FlatListed) → l ≡ listingOf flat → Lists l store piece out a store′ out′
-    → r ≡ record { next = flatListing (a .next); taken = a .taken; written = writtenOf (paper (a .written)) } → FlatLists (list (listingOf flat) store piece out) r store′ out′
+pub flat-lists : (flat : FlatListing) (l : Listing) (store piece out : List ℕ) (a : Listed) (store′ out′ : List ℕ) (r : FlatListed) → l ≡ listingBack flat → Lists l store piece out a store′ out′
+    → r ≡ record { next = flatListing (a .next); taken = a .taken; written = writtenOf (paper (a .written)) } → FlatLists (list (listingBack flat) store piece out) r store′ out′
 flat-lists flat l store piece out a store′ out′ r is e er =
     let whole = e ∙ ap (λ (z : Listing). list z store piece out) is in
     (er ∙ ap listedOf whole, (ap (λ (k : Call). k .store) whole, ap (λ (k : Call). k .left .out) whole))

@@ -47,7 +47,7 @@ abbrev pub steppedOf : After → FlatStepped
 steppedOf a = record { next = flatReceiver (a .next); event = eventOf (a .told) }
 
 abbrev pub ranOf : Run → FlatRan
-ranOf a = record { next = flatReceiver (a .next); event = eventOf (a .told); taken = a .taken }
+ranOf a = record { next = flatReceiver (a .next); event = eventOf (a .told); taken = a .taken; held = a .held }
 
 -- 0 silence, 1 a reply of so many bytes, 2 refused
 abbrev pub answeredOf : Answer.Outcome → FlatAnswered

@@ -1,2 +1,4 @@
 pub mod Flat
 pub mod Listing
+pub mod Calls
+pub mod Made

@@ -11,8 +11,8 @@ use Rattle.flat.specs.Flat.{flatReceiver, receiverOf, writtenOf}
 abbrev pub flatListing : Listing → FlatListing
 flatListing l = record { receiver = flatReceiver (l .receiver); offset = l .offset; frames = l .frames; refusals = l .refusals }
 
-abbrev pub listingOf : FlatListing → Listing
-listingOf f = record { receiver = receiverOf (f .receiver); offset = f .offset; frames = f .frames; refusals = f .refusals }
+abbrev pub listingBack : FlatListing → Listing
+listingBack f = record { receiver = receiverOf (f .receiver); offset = f .offset; frames = f .frames; refusals = f .refusals }
 
 abbrev pub listedOf : Call → FlatListed
 listedOf call = record { next = flatListing (call .next); taken = call .taken; written = writtenOf (call .left .outcome) }

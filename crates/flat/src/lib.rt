@@ -7,7 +7,7 @@ ghost use Rattle.receiver.specs.Step.{paper as paperEvent};
 ghost use Rattle.standin.specs.Answer.{paper as paperAnswered};
 ghost use Rattle.reply.specs.Read.{paper as paperReply};
 ghost use Rattle.flat.specs.Flat.{writtenOf, eventOf, flatReceiver, receiverOf, answeredOf, replyOf};
-ghost use Rattle.flat.specs.Listing.{flatListing, listingOf};
+ghost use Rattle.flat.specs.Listing.{flatListing, listingBack};
 use buffer::Written;
 use frame::Judged;
 use listing::Listed;
@@ -54,6 +54,7 @@ pub struct FlatRan {
     pub next: FlatReceiver,
     pub event: FlatEvent,
     pub taken: usize,
+    pub held: usize,
 }
 
 // The stand-in's answer: kind 0 silence, 1 a reply of so many bytes, 2 refused.
@@ -241,7 +242,7 @@ pub fn listing(listing: Listing) -> FlatListing
 }
 
 pub fn listing_of(flat: FlatListing) -> Listing
-    ensures { λ r. ⌜ r ≡ listingOf flat ⌝ }
+    ensures { λ r. ⌜ r ≡ listingBack flat ⌝ }
 {
     let outer = flat.receiver;
     Listing {

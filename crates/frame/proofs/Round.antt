@@ -4,7 +4,7 @@ use mathlib.Core.Logic.{_↔_}
 use mathlib.Core.List.{List, [], _∷_, _++_, append-assoc}
 use Prim.Native.Nat.{ℕ, _+_, _-_, _*_, _≤_}
 use native.Mathlib.Omega.{arith}
-use lib.ListN.{length, take, drop}
+use lib.ListN.{length, drop}
 use lib.Seq.{take-at}
 use borrow.Author.Tests.{le-leb}
 use Rattle.refusal.specs.Number.{number}
@@ -19,7 +19,7 @@ use Rattle.hex.proofs.Laws.{length-hexes, unhexes-hexes}
 use Rattle.frame.specs.declared.Header.{Header}
 use Rattle.frame.specs.declared.Judged.{Judged}
 use Rattle.frame.specs.declared.Judged.the-variants.{Frame, Refused}
-use Rattle.frame.specs.Frame.{SOI, CR, lengthOf, chksum, packed, seal, chars, encode, infoAt, Encodes, Frames}
+use Rattle.frame.specs.Frame.{SOI, CR, lengthOf, chksum, packed, seal, chars, encode, infoAt, Encodes, Frames, between}
 use Rattle.frame.specs.Judge.{Judges, paper}
 use Rattle.frame.specs.Write.{framed}
 use Rattle.frame.proofs.Judging.{judge-accepts}
@@ -49,10 +49,6 @@ info-at h info c e =
     ap (infoAt (2 * length info)) (e .is) ∙ take-at (hexes info) (hexes (word (chksum b))) (2 * length info) (length-hexes info)
 
 -- ---- what was written is read
-
--- the characters between SOI and CR of a frame of n bytes at the front of a buffer
-abbrev pub between : ℕ → List ℕ → List ℕ
-between n out = take (n - 2) (drop 1 out)
 
 module _ (h : Header) (info : List ℕ) (head : Bytes (h .ver ∷ h .adr ∷ h .cid1 ∷ h .cid2 ∷ [])) (body : Bytes info) (out : List ℕ) where
   -- with INFO of at most 2,047 bytes, and room for it

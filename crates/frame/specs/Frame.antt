@@ -49,6 +49,10 @@ encode h info = SOI ∷ (chars h info ++ CR ∷ [])
 abbrev pub infoAt : ℕ → List ℕ → List ℕ
 infoAt lenid c = take lenid (drop 12 c)
 
+-- the characters between SOI and CR of a frame of n bytes at the front of a buffer
+abbrev pub between : ℕ → List ℕ → List ℕ
+between n out = take (n - 2) (drop 1 out)
+
 -- c stands between SOI and CR of the frame with this header and INFO, of 0 to 2,047 bytes
 pub record Encodes (h : Header) (info c : List ℕ) : Type 0 where
   pub head : Bytes (h .ver ∷ h .adr ∷ h .cid1 ∷ h .cid2 ∷ [])

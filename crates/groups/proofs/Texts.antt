@@ -18,7 +18,8 @@ use Rattle.record.specs.Alarm.{alarm}
 use Rattle.table.specs.declared.Table.{Table}
 use Rattle.table.specs.Table.{members, isOn, blank}
 use Rattle.table.proofs.Members.{nil, member-is}
-use Rattle.groups.specs.Groups.{valuesOn, textOn, textOfAll, analogText, alarmText}
+use Rattle.groups.specs.Groups.{valuesOn}
+use Rattle.groups.specs.Texts.{textOn, textOfAll, analogText, alarmText}
 
 module _ (text : Module → List ℕ) where
   pub text-on : (m : Module) → m .on ≡ 1 → text m ≡ textOn text m

@@ -10,7 +10,8 @@ ghost use Rattle.record.specs.Analog.{analog as analogRecord};
 ghost use Rattle.record.specs.Alarm.{alarm as alarmRecord};
 ghost use Rattle.table.specs.Table.{members};
 ghost use Rattle.table.specs.Rule.{keeps};
-ghost use Rattle.groups.specs.Groups.{textOn, textOfAll, analogText, alarmText, analogGroupWriting, alarmGroupWriting};
+ghost use Rattle.groups.specs.Groups.{analogGroupWriting, alarmGroupWriting};
+ghost use Rattle.groups.specs.Texts.{textOn, textOfAll, analogText, alarmText};
 use buffer::Written;
 use record::Module;
 use refusal::Refusal;
@@ -25,7 +26,7 @@ fn analog_size_on(member: Module) -> usize
 {
     if member.on == 1 {
         let analog = member.analog;
-        return analog_writer::analog_size(analog);
+        return analog::writer::analog_size(analog);
     }
     0
 }
@@ -51,7 +52,7 @@ fn put_analog_on(out: &mut [u8], at: usize, member: Module) -> usize
 {
     if member.on == 1 {
         let analog = member.analog;
-        return analog_writer::put_analog(out, at, analog);
+        return analog::writer::put_analog(out, at, analog);
     }
     at
 }
@@ -75,7 +76,7 @@ fn put_analogs(out: &mut [u8], at: usize, table: Table) -> usize
 pub fn write_analog_group(out: &mut [u8], flag: u8, table: Table) -> Written
     ensures { λ r. ⌜ Writes (analogGroupWriting (keeps table) flag (members table) (now (out .entry))) r (now (out .exit)) ⌝ }
 {
-    if !rules::keeps_rule(table) {
+    if !table::rule::keeps_rule(table) {
         return Written::Refused(Refusal::TableBreaksRule);
     }
     if out.len() < analog_group_size(table) {
@@ -96,7 +97,7 @@ fn alarm_size_on(member: Module) -> usize
 {
     if member.on == 1 {
         let alarm = member.alarm;
-        return alarm_writer::alarm_size(alarm);
+        return alarm::writer::alarm_size(alarm);
     }
     0
 }
@@ -122,7 +123,7 @@ fn put_alarm_on(out: &mut [u8], at: usize, member: Module) -> usize
 {
     if member.on == 1 {
         let alarm = member.alarm;
-        return alarm_writer::put_alarm(out, at, alarm);
+        return alarm::writer::put_alarm(out, at, alarm);
     }
     at
 }
@@ -146,7 +147,7 @@ fn put_alarms(out: &mut [u8], at: usize, table: Table) -> usize
 pub fn write_alarm_group(out: &mut [u8], flag: u8, table: Table) -> Written
     ensures { λ r. ⌜ Writes (alarmGroupWriting (keeps table) flag (members table) (now (out .entry))) r (now (out .exit)) ⌝ }
 {
-    if !rules::keeps_rule(table) {
+    if !table::rule::keeps_rule(table) {
         return Written::Refused(Refusal::TableBreaksRule);
     }
     if out.len() < alarm_group_size(table) {

@@ -3,16 +3,17 @@ use mathlib.Core.Path.{_≡_, refl, sym, ap, _∙_, subst}
 use mathlib.Core.Bool.{Bool, true, false, not, cond}
 use mathlib.Core.List.{List}
 use Prim.Native.Nat.{ℕ, _≤_, _<_}
-use native.Mathlib.Nat.{le-refl}
+use native.Mathlib.Nat.{le-refl, le-of-eq}
 use native.Mathlib.Omega.{arith}
-use lib.ListN.{length, take, replicate}
-use lib.Dec.{ltb, leb, leb→le, nleb→lt, T}
+use lib.ListN.{length, take}
+use lib.Seq.{length-take-le, take-take}
+use lib.Dec.{leb, leb→le, nleb→lt, T}
 use Rattle.buffer.specs.Writing.{writing}
 use Rattle.record.specs.declared.Module.{Module}
 use Rattle.table.specs.declared.Station.{Station}
 use Rattle.table.specs.declared.Table.{Table}
-use Rattle.table.specs.Table.{blank, members}
-use Rattle.gate.specs.declared.Question.{Question}
+use Rattle.table.specs.Table.{members}
+use Rattle.reply.specs.declared.gate.Question.{Question}
 use Rattle.reply.specs.Read.{Left, readReply}
 use Rattle.table.specs.Rule.{rule, keeps}
 use Rattle.groups.specs.Groups.{analogGroupWriting, alarmGroupWriting}
@@ -20,14 +21,13 @@ use Rattle.standin.specs.Answer.{answer, offAt}
 use Rattle.flat.specs.declared.FlatReply.{FlatReply}
 use Rattle.entries.specs.declared.ReadReply.{ReadReply}
 use Rattle.lent.specs.Loaded.{over, loaded}
-use Rattle.entries.specs.Entries.{Serves, ReadsFlat}
-use Rattle.hanuzak.specs.Reading.{toldOf, reading, ReplyLeaves}
-use Rattle.flat.specs.declared.FlatAnswered.{FlatAnswered}
+use Rattle.entries.specs.Entries.{Serves, changesRecords, storedOf, ReadsFlat}
+use Rattle.hanuzak.specs.Reading.{readThen, reading, ReplyLeaves}
 use Rattle.entries.specs.declared.Served.{Served}
-use Rattle.flat.specs.Flat.{answeredOf, replyOf}
-use Rattle.hanuzak.specs.Answering.{Then, tableThen, thenOf, answering, Leaves}
-use Rattle.lent.proofs.Rows.{set-past}
-use Rattle.lent.proofs.Loaded.{by-loaded, take-all, few-keep, loaded-members, many-break, over-all, over-back, length-over}
+use Rattle.flat.specs.Flat.{replyOf}
+use Rattle.hanuzak.specs.Answering.{thenOf, answering, Leaves}
+use Rattle.lent.proofs.Loaded.{by-loaded, few-keep, loaded-members, many-break, over-all, over-none}
+use Rattle.entries.proofs.Stored.{unstored}
 
 module _ (ms : List Module) (flag : ℕ) (out : List ℕ) where
   pub lent-analog : analogGroupWriting (keeps (loaded ms)) flag (members (loaded ms)) out ≡ analogGroupWriting (rule ms) flag ms out
@@ -38,64 +38,66 @@ module _ (ms : List Module) (flag : ℕ) (out : List ℕ) where
   unfolding writing
   lent-alarm = by-loaded (λ (b : Bool) (xs : List Module). alarmGroupWriting b flag xs out) ms (λ xs ys. refl)
 
-pub lent-answer : (station : Station) (ms : List Module) (stretch out : List ℕ) → answer (keeps (loaded ms)) station (members (loaded ms)) stretch out ≡ answer (rule ms) station ms stretch out
-unfolding answer
-lent-answer station ms stretch out = by-loaded (λ (b : Bool) (xs : List Module). answer b station xs stretch out) ms (λ xs ys. refl)
-
--- the place that goes off, or the count, past every record
-pub off-then : (off : ℕ) (ms : List Module) → offAt (cond (ltb off 12) off (length ms)) ms ≡ tableThen off ms
-unfolding offAt tableThen
-off-then off ms = pick (ltb off 12)
-  where
-    pick : (b : Bool) → offAt (cond b off (length ms)) ms ≡ cond b (offAt off ms) ms
-    pick true = refl
-    pick false = set-past ms (length ms) _ (le-refl (length ms))
+pub lent-answer : (station : Station) (ms : List Module) (stretch out : List ℕ)
+    → answer (keeps (loaded ms)) (loaded ms .count) station (members (loaded ms)) stretch out ≡ answer (rule ms) (length ms) station ms stretch out
+unfolding answer loaded
+lent-answer station ms stretch out = by-loaded (λ (b : Bool) (xs : List Module). answer b (length ms) station xs stretch out) ms (λ xs ys. refl)
 
 -- the three parts of the stand-in over a lent table
 pub lent-answering : (station : Station) (ms : List Module) (stretch out : List ℕ) (r : Served) (table : List Module) (out′ : List ℕ)
-    → Serves (answer (keeps (loaded ms)) station (members (loaded ms)) stretch out) (loaded ms .count) r out′ → table ≡ offAt (r .off) ms → Leaves (answering station ms stretch out) (r .answered) table out′
-unfolding answering loaded
+    → Serves (answer (keeps (loaded ms)) (loaded ms .count) station (members (loaded ms)) stretch out) r out′ → table ≡ offAt (r .off) ms → Leaves (answering station ms stretch out) (r .answered) table out′
+unfolding answering
 lent-answering station ms stretch out r table out′ s e =
-    let left = answer (keeps (loaded ms)) station (members (loaded ms)) stretch out in
-    let one : FlatAnswered → Then = λ (k : FlatAnswered). record { answered = k; table = table; out = out′ } in
-    let two : List Module → Then = λ (k : List Module). record { answered = answeredOf (left .outcome); table = k; out = out′ } in
-    let three : List ℕ → Then = λ (k : List ℕ). record { answered = answeredOf (left .outcome); table = tableThen (left .off) ms; out = k } in
-    ap one (s .answered) ∙ ap two (e ∙ ap (λ (k : ℕ). offAt k ms) (s .off) ∙ off-then (left .off) ms) ∙ ap three (s .out) ∙ ap (thenOf ms) (lent-answer station ms stretch out)
+    (λ i. record { answered = s .answered i; table = (e ∙ ap (λ (k : ℕ). offAt k ms) (s .off)) i; out = s .out i })
+    ∙ ap (thenOf ms) (lent-answer station ms stretch out)
 
 -- ---- the reply reader
 
--- a table by value with the count and the members of a list lies over it as those members
-module _ (ms : List Module) (t : Table) (full : length (t .modules) ≡ 12) (count : t .count ≡ length ms) where
-  few-back : length ms ≤ 12 → over ms (t .modules) ≡ members t
-  unfolding members
-  few-back few = over-all ms (t .modules) (omega (arith, full, few)) ∙ ap (λ (n : ℕ). take n (t .modules)) (sym count)
-
-  many-back : 12 < length ms → members t ≡ members (loaded ms) → over ms (t .modules) ≡ ms
-  unfolding members loaded
-  many-back many e =
-      let row = replicate 12 blank in
-      let here : t .modules ≡ members t = sym (take-all (t .modules) (t .count) (omega (arith, full, count, many))) in
-      let there : members (loaded ms) ≡ over row ms = take-all (over row ms) (length ms) (omega (arith, length-over row ms, many)) in
-      ap (over ms) (here ∙ e ∙ there) ∙ over-back ms row
+-- as many records of a table by value as a list has, over that list
+few-back : (ms : List Module) (t : Table) → length (t .modules) ≡ 12 → t .count ≡ length ms → length ms ≤ 12 → over ms (take (length ms) (t .modules)) ≡ members t
+unfolding members
+few-back ms t full count few =
+    let n = length ms in
+    let long : length (take n (t .modules)) ≡ n = length-take-le n (t .modules) (omega (arith, full, few)) in
+    over-all ms (take n (t .modules)) (le-of-eq (sym long)) ∙ take-take n n (t .modules) (le-refl n) ∙ ap (λ (k : ℕ). take k (t .modules)) (sym count)
 
 pub lent-reading : (ms : List Module) (question : Question) (stretch : List ℕ) (r : ReadReply) (table : List Module) → length (r .table .modules) ≡ 12
-    → ReadsFlat (readReply (keeps (loaded ms)) (members (loaded ms)) question stretch) (loaded ms) r → table ≡ over ms (r .table .modules) → ReplyLeaves (reading ms question stretch) (r .reply) table
+    → ReadsFlat (readReply (keeps (loaded ms)) (members (loaded ms)) question stretch) (question .cid2) (loaded ms) r → table ≡ over ms (take (r .stored) (r .table .modules))
+    → ReplyLeaves (reading ms question stretch) (r .reply) table
 unfolding reading loaded readReply
 lent-reading ms question stretch r table full s e = pick (leb (length ms) 12) refl
   where
     left : Bool → List Module → Left
     left b xs = readReply b xs question stretch
 
-    both : (l : Left) → r .reply ≡ replyOf (l .outcome) (l .maker) → table ≡ l .modules → ReplyLeaves (toldOf l) (r .reply) table
-    both l p u = ap (λ (k : FlatReply). record { reply = k; table = table }) p ∙ ap (λ (k : List Module). record { reply = replyOf (l .outcome) (l .maker); table = k }) u
+    flat : Left → FlatReply
+    flat l = replyOf (l .outcome) (l .maker)
 
-    pick : (b : Bool) → leb (length ms) 12 ≡ b → ReplyLeaves (toldOf (left (rule ms) ms)) (r .reply) table
+    read : Left
+    read = left (keeps (loaded ms)) (members (loaded ms))
+
+    -- how many records are stored
+    stored-is : (l : Left) → read ≡ l → (b : Bool) → changesRecords (question .cid2) (flat l) ≡ b → r .stored ≡ cond b (length ms) 0
+    stored-is l is b c = s .stores ∙ ap (λ (k : Left). storedOf (length ms) (question .cid2) (flat k)) is ∙ ap (λ (x : Bool). cond x (length ms) 0) c
+
+    none-stored : r .stored ≡ 0 → table ≡ ms
+    none-stored z = e ∙ ap (λ (k : ℕ). over ms (take k (r .table .modules))) z ∙ over-none ms
+
+    few-stored : length ms ≤ 12 → read ≡ left (rule ms) ms → (b : Bool) → changesRecords (question .cid2) (flat (left (rule ms) ms)) ≡ b → table ≡ left (rule ms) ms .modules
+    few-stored few same true c =
+        e ∙ ap (λ (k : ℕ). over ms (take k (r .table .modules))) (stored-is _ same true c) ∙ few-back ms (r .table) full (s .kept .0) few ∙ s .members-are ∙ ap (λ (l : Left). l .modules) same
+    few-stored few same false c = none-stored (stored-is _ same false c) ∙ sym (unstored question ms (rule ms) stretch c)
+
+    both : (l : Left) → read ≡ l → table ≡ left (rule ms) ms .modules → flat l ≡ flat (left (rule ms) ms) → ReplyLeaves (readThen (left (rule ms) ms)) (r .reply) table
+    both l is u f = λ i. record { reply = (s .told ∙ ap flat is ∙ f) i; table = u i }
+
+    pick : (b : Bool) → leb (length ms) 12 ≡ b → ReplyLeaves (readThen (left (rule ms) ms)) (r .reply) table
     pick true t =
         let few : length ms ≤ 12 = leb→le (length ms) 12 (subst T (sym t) tt) in
-        let same : left (keeps (loaded ms)) (members (loaded ms)) ≡ left (rule ms) ms = ap (λ (b : Bool). left b (members (loaded ms))) (few-keep ms few) ∙ ap (left (rule ms)) (loaded-members ms few) in
-        both (left (rule ms) ms) (s .told ∙ ap (λ (l : Left). replyOf (l .outcome) (l .maker)) same) (e ∙ few-back ms (r .table) full (s .kept .0) few ∙ s .members-are ∙ ap (λ (l : Left). l .modules) same)
+        let same : read ≡ left (rule ms) ms = ap (λ (b : Bool). left b (members (loaded ms))) (few-keep ms few) ∙ ap (left (rule ms)) (loaded-members ms few) in
+        both (left (rule ms) ms) same (few-stored few same (changesRecords (question .cid2) (flat (left (rule ms) ms))) refl) refl
     pick false t =
         let many : 12 < length ms = nleb→lt (length ms) 12 (subst (λ (b : Bool). T (not b)) (sym t) tt) in
-        let was : left (keeps (loaded ms)) (members (loaded ms)) ≡ left false (members (loaded ms)) = ap (λ (b : Bool). left b (members (loaded ms))) (many-break ms many .0) in
+        let was : read ≡ left false (members (loaded ms)) = ap (λ (b : Bool). left b (members (loaded ms))) (many-break ms many .0) in
         let is : left false ms ≡ left (rule ms) ms = ap (λ (b : Bool). left b ms) (sym (many-break ms many .1)) in
-        both (left false ms) (s .told ∙ ap (λ (l : Left). replyOf (l .outcome) (l .maker)) was) (e ∙ many-back ms (r .table) full (s .kept .0) many (s .members-are ∙ ap (λ (l : Left). l .modules) was)) ∙ ap toldOf is
+        both (left false (members (loaded ms))) was (none-stored (stored-is _ was false refl) ∙ ap (λ (l : Left). l .modules) is) (ap flat is)

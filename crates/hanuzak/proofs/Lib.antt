@@ -1,3 +1,4 @@
 pub mod Shared
 pub mod Lent
 pub mod Ones
+pub mod ReadBack

@@ -1,9 +1,8 @@
 -- The stand-in over a lent table: what it answers, its buffer then, and the table then.
 use mathlib.Core.Path.{_≡_}
-use mathlib.Core.Bool.{cond}
 use mathlib.Core.List.{List}
 use Prim.Native.Nat.{ℕ}
-use lib.Dec.{ltb}
+use lib.ListN.{length}
 use Rattle.record.specs.declared.Module.{Module}
 use Rattle.table.specs.declared.Station.{Station}
 use Rattle.table.specs.Rule.{rule}
@@ -17,15 +16,12 @@ pub record Then : Type 0 where
   pub table : List Module
   pub out : List ℕ
 
--- the record that goes off does; place 12 is none's
-unfoldable pub tableThen : ℕ → List Module → List Module
-tableThen off ms = cond (ltb off 12) (offAt off ms) ms
-
+-- the record that goes off does; the count is the place of none
 abbrev pub thenOf : List Module → Left → Then
-thenOf ms left = record { answered = answeredOf (left .outcome); table = tableThen (left .off) ms; out = left .out }
+thenOf ms left = record { answered = answeredOf (left .outcome); table = offAt (left .off) ms; out = left .out }
 
 unfoldable pub answering : Station → List Module → List ℕ → List ℕ → Then
-answering station ms stretch out = thenOf ms (answer (rule ms) station ms stretch out)
+answering station ms stretch out = thenOf ms (answer (rule ms) (length ms) station ms stretch out)
 
 -- the contract of the stand-in over a lent table
 abbrev pub Leaves : Then → FlatAnswered → List Module → List ℕ → Type 0

@@ -5,17 +5,17 @@ ghost use mathlib.Core.Bool.{cond};
 ghost use lib.ListN.{getD, set};
 ghost use Rattle.frame.specs.Judge.{judge};
 ghost use Rattle.frame.specs.Write.{framed};
-ghost use Rattle.receiver.specs.Step.{step};
-ghost use Rattle.receiver.specs.Run.{run};
 ghost use Rattle.record.specs.Meanings.{milliampsOf, tenthsCelsiusOf};
 ghost use Rattle.record.specs.Infos.{analogInfo, alarmInfo, limitsInfo, serialInfo, versionInfo};
-ghost use Rattle.writers.specs.Records.{recordWriting};
+ghost use Rattle.parts.specs.Records.{recordWriting};
+ghost use Rattle.table.specs.Table.{newModule};
 ghost use Rattle.table.specs.Rule.{rule};
 ghost use Rattle.groups.specs.Groups.{analogGroupWriting, alarmGroupWriting};
 ghost use Rattle.standin.specs.Answer.{offAt};
 ghost use Rattle.listing.specs.Piece.{fresh, list, closing};
-ghost use Rattle.flat.specs.Flat.{FlatWrites, eventOf, flatReceiver, receiverOf, steppedOf, ranOf};
-ghost use Rattle.flat.specs.Listing.{flatListing, listingOf, FlatLists};
+ghost use Rattle.flat.specs.Flat.{FlatWrites, eventOf, flatReceiver};
+ghost use Rattle.flat.specs.Calls.{FlatSteps, FlatRuns};
+ghost use Rattle.flat.specs.Listing.{flatListing, listingBack, FlatLists};
 ghost use Rattle.hanuzak.specs.Answering.{answering, Leaves};
 ghost use Rattle.hanuzak.specs.Reading.{reading, ReplyLeaves};
 use flat::FlatAnswered;
@@ -28,10 +28,10 @@ use flat::FlatReply;
 use flat::FlatStepped;
 use flat::FlatWritten;
 use frame::Header;
-use gate::Question;
 use listing::Listing;
 use receiver::Receiver;
 use record::Module;
+use reply::gate::Question;
 use table::Station;
 
 // ---- one record of the lent table
@@ -67,7 +67,15 @@ pub extern "C" fn hanuzak_switch_off(table: &mut [Module], at: usize)
     }
 }
 
-// ---- the rule, and the group writers
+// ---- a new record, the rule, and the group writers
+
+// A record that keeps the rule by itself, where its ADR does.
+#[no_mangle]
+pub extern "C" fn hanuzak_module_new(adr: u8) -> Module
+    ensures { λ r. ⌜ r ≡ newModule adr ⌝ }
+{
+    table::new_module(adr)
+}
 
 // 0 for a table that keeps its rule, else 31.
 #[no_mangle]
@@ -106,7 +114,8 @@ pub extern "C" fn hanuzak_write_alarm_group(
 
 // ---- the stand-in and the reply reader
 
-// The answer to a stretch, the bytes between SOI and CR; an accepted 95H switches its module off in the lent table.
+// The answer to a stretch, the bytes between SOI and CR; an accepted 95H switches its module off in the lent table, of which only that
+// record's mark is written.
 #[no_mangle]
 pub extern "C" fn hanuzak_answer(
     table: &mut [Module],
@@ -122,7 +131,8 @@ pub extern "C" fn hanuzak_answer(
     served.answered
 }
 
-// Reads the reply to a question from a stretch, the bytes between SOI and CR, into the lent table.
+// Reads the reply to a question from a stretch, the bytes between SOI and CR, into the lent table. Where no record changes, none is stored:
+// a refusal changes no lent byte, not even between a record's fields.
 #[no_mangle]
 pub extern "C" fn hanuzak_read_reply(
     table: &mut [Module],
@@ -133,7 +143,7 @@ pub extern "C" fn hanuzak_read_reply(
 {
     let all = lent::load(table);
     let done = entries::read_flat(all, question, stretch);
-    lent::store(table, done.table);
+    lent::store(table, done.table, done.stored);
     done.reply
 }
 
@@ -158,7 +168,7 @@ pub extern "C" fn hanuzak_receiver_new() -> FlatReceiver
 // One byte of the stream.
 #[no_mangle]
 pub extern "C" fn hanuzak_step(receiver: FlatReceiver, store: &mut [u8], byte: u8) -> FlatStepped
-    ensures { λ r. ⌜ (r ≡ steppedOf (step (receiverOf receiver) (now (store .entry)) byte)) × (now (store .exit) ≡ step (receiverOf receiver) (now (store .entry)) byte .store) ⌝ }
+    ensures { λ r. ⌜ FlatSteps receiver (now (store .entry)) byte r (now (store .exit)) ⌝ }
 {
     let inner = flat::receiver_of(receiver);
     let stepped = inner.step(store, byte);
@@ -173,7 +183,7 @@ pub extern "C" fn hanuzak_step(receiver: FlatReceiver, store: &mut [u8], byte: u
 // A piece of the stream, up to and including the byte that gives an event.
 #[no_mangle]
 pub extern "C" fn hanuzak_run(receiver: FlatReceiver, store: &mut [u8], piece: &[u8]) -> FlatRan
-    ensures { λ r. ⌜ (r ≡ ranOf (run (receiverOf receiver) (now (store .entry)) (now (piece .entry)))) × (now (store .exit) ≡ run (receiverOf receiver) (now (store .entry)) (now (piece .entry)) .store) ⌝ }
+    ensures { λ r. ⌜ FlatRuns receiver (now (store .entry)) (now (piece .entry)) r (now (store .exit)) ⌝ }
 {
     let inner = flat::receiver_of(receiver);
     let ran = inner.run(store, piece);
@@ -183,6 +193,7 @@ pub extern "C" fn hanuzak_run(receiver: FlatReceiver, store: &mut [u8], piece: &
         next: flat::receiver(next),
         event: flat::event(event),
         taken: ran.taken,
+        held: ran.held,
     }
 }
 
@@ -214,7 +225,7 @@ pub extern "C" fn hanuzak_write_frame(
 pub extern "C" fn hanuzak_write_analog(given: Module, flag: u8, out: &mut [u8]) -> FlatWritten
     ensures { λ r. ⌜ FlatWrites (recordWriting (given .adr) (analogInfo (given .adr)) ((flag, given .adr), given .analog) (now (out .entry))) r (now (out .exit)) ⌝ }
 {
-    flat::written(analog_writer::write_analog(out, flag, given))
+    flat::written(analog::writer::write_analog(out, flag, given))
 }
 
 // INFO of 44H for one module: 33, then 32.
@@ -222,7 +233,7 @@ pub extern "C" fn hanuzak_write_analog(given: Module, flag: u8, out: &mut [u8]) 
 pub extern "C" fn hanuzak_write_alarm(given: Module, flag: u8, out: &mut [u8]) -> FlatWritten
     ensures { λ r. ⌜ FlatWrites (recordWriting (given .adr) (alarmInfo (given .adr)) ((flag, given .adr), given .alarm) (now (out .entry))) r (now (out .exit)) ⌝ }
 {
-    flat::written(alarm_writer::write_alarm(out, flag, given))
+    flat::written(alarm::writer::write_alarm(out, flag, given))
 }
 
 // INFO of 92H: 33, then 32.
@@ -230,7 +241,7 @@ pub extern "C" fn hanuzak_write_alarm(given: Module, flag: u8, out: &mut [u8]) -
 pub extern "C" fn hanuzak_write_limits(given: Module, out: &mut [u8]) -> FlatWritten
     ensures { λ r. ⌜ FlatWrites (recordWriting (given .adr) (limitsInfo (given .adr)) (given .adr, given .limits) (now (out .entry))) r (now (out .exit)) ⌝ }
 {
-    flat::written(writers::write_limits(out, given))
+    flat::written(fixed::writer::write_limits(out, given))
 }
 
 // INFO of 93H: 33, then 32.
@@ -238,7 +249,7 @@ pub extern "C" fn hanuzak_write_limits(given: Module, out: &mut [u8]) -> FlatWri
 pub extern "C" fn hanuzak_write_serial(given: Module, out: &mut [u8]) -> FlatWritten
     ensures { λ r. ⌜ FlatWrites (recordWriting (given .adr) (serialInfo (given .adr)) (given .adr, given .serial) (now (out .entry))) r (now (out .exit)) ⌝ }
 {
-    flat::written(writers::write_serial(out, given))
+    flat::written(fixed::writer::write_serial(out, given))
 }
 
 // INFO of 96H: 33, then 32.
@@ -246,7 +257,7 @@ pub extern "C" fn hanuzak_write_serial(given: Module, out: &mut [u8]) -> FlatWri
 pub extern "C" fn hanuzak_write_version(given: Module, out: &mut [u8]) -> FlatWritten
     ensures { λ r. ⌜ FlatWrites (recordWriting (given .adr) (versionInfo (given .adr)) (given .adr, given .version) (now (out .entry))) r (now (out .exit)) ⌝ }
 {
-    flat::written(writers::write_version(out, given))
+    flat::written(fixed::writer::write_version(out, given))
 }
 
 // ---- what numbers mean
@@ -285,7 +296,7 @@ pub extern "C" fn hanuzak_list(
     piece: &[u8],
     out: &mut [u8],
 ) -> FlatListed
-    ensures { λ r. ⌜ FlatLists (list (listingOf listing) (now (store .entry)) (now (piece .entry)) (now (out .entry))) r (now (store .exit)) (now (out .exit)) ⌝ }
+    ensures { λ r. ⌜ FlatLists (list (listingBack listing) (now (store .entry)) (now (piece .entry)) (now (out .entry))) r (now (store .exit)) (now (out .exit)) ⌝ }
 {
     let inner = flat::listing_of(listing);
     flat::listed(inner.list(store, piece, out))
@@ -294,7 +305,7 @@ pub extern "C" fn hanuzak_list(
 // The two totals, which close a listing: 32 for a buffer below 38 bytes.
 #[no_mangle]
 pub extern "C" fn hanuzak_list_close(listing: FlatListing, out: &mut [u8]) -> FlatWritten
-    ensures { λ r. ⌜ FlatWrites (closing (listingOf listing) (now (out .entry))) r (now (out .exit)) ⌝ }
+    ensures { λ r. ⌜ FlatWrites (closing (listingBack listing) (now (out .entry))) r (now (out .exit)) ⌝ }
 {
     let inner = flat::listing_of(listing);
     flat::written(inner.close(out))

@@ -26,7 +26,14 @@ said-char d h = eqb→eq (said (charOf d)) d (below (λ d. eqb (said (charOf d))
 
 pub digit-small : (c : ℕ) → digitOf c < 16
 unfolding digitOf
-digit-small c = omega arith
+digit-small c =
+    by-cond (λ (d : ℕ). d < 16) (within "0" "9" c) (λ t. omega (arith, leb→le c 57 (and-yes (leb 48 c) (leb c 57) t .1)))
+    (λ t. by-cond (λ (d : ℕ). d < 16) (within "A" "F" c) (λ v. omega (arith, leb→le c 70 (and-yes (leb 65 c) (leb c 70) v .1))) (λ v. omega arith))
+
+-- the same with no branch
+pub reckoned : (c : ℕ) → c < 256 → (c % 16 + c / 64 * 9) % 16 ≡ digitOf c
+unfolding digitOf
+reckoned c h = eqb→eq ((c % 16 + c / 64 * 9) % 16) (digitOf c) (below (λ c. eqb ((c % 16 + c / 64 * 9) % 16) (digitOf c)) 256 tt c h)
 
 -- how far a byte is from the hex characters, by differences that stop at 0
 unfoldable far : ℕ → ℕ

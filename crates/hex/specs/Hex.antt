@@ -14,7 +14,10 @@ isHex c = within "0" "9" c || within "A" "F" c
 
 -- the digit that a hex character says: `0` to `9` are 48 to 57, `A` to `F` are 65 to 70; any other is refused before it is read
 unfoldable pub digitOf : ℕ → ℕ
-digitOf c = (c % 16 + c / 64 * 9) % 16
+digitOf c =
+    cond (within "0" "9" c) (c - code "0")
+    (cond (within "A" "F" c) (c - code "A" + 10)
+    ((c % 16 + c / 64 * 9) % 16))
 
 -- the character of a digit
 unfoldable pub charOf : ℕ → ℕ

@@ -3,9 +3,10 @@ use mathlib.Core.Path.{_≡_, refl, sym, ap, _∙_, subst}
 use mathlib.Core.Bool.{Bool, true, false, not, cond}
 use mathlib.Core.List.{List, [], _∷_}
 use Prim.Native.Nat.{ℕ, zero, suc, _≤_, _<_}
-use native.Mathlib.Nat.{not-suc-le-zero, le-of-suc-le-suc}
+use native.Mathlib.Nat.{not-suc-le-zero, le-of-suc-le-suc, le-of-lt, min-le-left, min-le-right}
 use native.Mathlib.Omega.{arith}
-use lib.ListN.{length, getD, set, take, replicate}
+use lib.ListN.{length, getD, set, take, replicate, length-take}
+use lib.Seq.{take-all, take-take}
 use lib.Dec.{leb, ltb, leb→le, nleb→lt, ltb→lt, nltb→le, T}
 use borrow.Author.Tests.{le-leb, lt-leb}
 use Rattle.record.specs.declared.Module.{Module}
@@ -28,12 +29,6 @@ set-over [] (m ∷ ms) zero d h = refl
 set-over [] (m ∷ ms) (suc i) d h = refl
 set-over (r ∷ row) (m ∷ ms) zero d h = ap (λ (z : List Module). m ∷ z) (sym (over-none row))
 set-over (r ∷ row) (m ∷ ms) (suc i) d h = ap (λ (z : List Module). m ∷ z) (set-over row ms i d (le-of-suc-le-suc h))
-
-pub take-all : (ms : List Module) (i : ℕ) → length ms ≤ i → take i ms ≡ ms
-take-all [] zero h = refl
-take-all [] (suc i) h = refl
-take-all (m ∷ ms) zero h = absurd (not-suc-le-zero h)
-take-all (m ∷ ms) (suc i) h = ap (λ (z : List Module). m ∷ z) (take-all ms i (le-of-suc-le-suc h))
 
 abbrev pub placed : Table → ℕ → Module → Table
 placed t i m = record { count = t .count; modules = set (t .modules) i m }
@@ -68,7 +63,7 @@ unfolding loaded
 all-in ms n i e h = ap (λ (row : List Module). record { count = length ms; modules = row }) (pick (ltb (length ms) 12) e)
   where
     pick : (b : Bool) → n ≡ cond b (length ms) 12 → over (replicate 12 blank) (take i ms) ≡ over (replicate 12 blank) ms
-    pick true k = ap (over (replicate 12 blank)) (take-all ms i (omega (arith, k, h)))
+    pick true k = ap (over (replicate 12 blank)) (take-all i ms (omega (arith, k, h)))
     pick false k = over-take (replicate 12 blank) ms i (omega (arith, k, h))
 
 -- ---- its records, and its rule
@@ -112,27 +107,50 @@ loaded-keeps ms = by-loaded (λ (b : Bool) (xs : List Module). b) ms (λ xs ys. 
 
 -- ---- back into a lent table
 
-pub over-short : (row ms : List Module) (n i : ℕ) → n ≡ cond (ltb (length row) 12) (length row) 12 → length ms ≡ 12 → n ≤ i → over row (take i ms) ≡ over row ms
-over-short row ms n i e full h = pick (ltb (length row) 12) e
+-- the least of a count, twelve and another count
+abbrev pub Least : ℕ → ℕ → ℕ → Type 0
+Least k count n = n ≡ cond (ltb count (cond (ltb k 12) k 12)) count (cond (ltb k 12) k 12)
+
+pub least-of : (k count n : ℕ) → Least k count n → (n ≤ k) × (n ≤ 12) × (n ≤ count)
+least-of k count n e = pick (ltb count m) refl e
   where
-    pick : (b : Bool) → n ≡ cond b (length row) 12 → over row (take i ms) ≡ over row ms
-    pick true k = over-take row ms i (omega (arith, k, h))
-    pick false k = ap (over row) (take-all ms i (omega (arith, k, h, full)))
+    m : ℕ
+    m = cond (ltb k 12) k 12
+
+    pick : (b : Bool) → ltb count m ≡ b → n ≡ cond b count m → (n ≤ k) × (n ≤ 12) × (n ≤ count)
+    pick true t h =
+        let small : count < m = ltb→lt count m (subst T (sym t) tt) in
+        let l = least-is k m refl in
+        (omega (arith, h, small, l .0), omega (arith, h, small, l .1), omega (arith, h))
+    pick false t h =
+        let large : m ≤ count = nltb→le count m (subst (λ (b : Bool). T (not b)) (sym t) tt) in
+        let l = least-is k m refl in
+        (omega (arith, h, l .0), omega (arith, h, l .1), omega (arith, h, large))
+
+-- the next of the first records
+pub set-first : (row ms : List Module) (count i : ℕ) (d : Module) → i < count → i < length ms → set (over row (take i (take count ms))) i (getD ms i d) ≡ over row (take (suc i) (take count ms))
+set-first row ms count i d c h = rw (take-take i count ms (le-of-lt c), take-take (suc i) count ms c) (set-over row ms i d h)
+
+short : (n : ℕ) (ms : List Module) → (length (take n ms) ≤ n) × (length (take n ms) ≤ length ms)
+short n ms = rw (length-take n ms) (min-le-left n (length ms), min-le-right n (length ms))
+
+-- so many that no other has a place
+pub over-first : (row ms : List Module) (count n i : ℕ) → Least (length row) count n → length ms ≡ 12 → n ≤ i → over row (take i (take count ms)) ≡ over row (take count ms)
+over-first row ms count n i e full h = pick (ltb count m) e
+  where
+    m : ℕ
+    m = cond (ltb (length row) 12) (length row) 12
+
+    few : (b : Bool) → n ≡ cond b (length row) 12 → over row (take i (take count ms)) ≡ over row (take count ms)
+    few true k = over-take row (take count ms) i (omega (arith, k, h))
+    few false k = ap (over row) (take-all i (take count ms) (omega (arith, k, h, full, short count ms .1)))
+
+    pick : (b : Bool) → n ≡ cond b count m → over row (take i (take count ms)) ≡ over row (take count ms)
+    pick true k = ap (over row) (take-all i (take count ms) (omega (arith, k, h, short count ms .0)))
+    pick false k = few (ltb (length row) 12) k
 
 pub over-all : (row ms : List Module) → length row ≤ length ms → over row ms ≡ take (length row) ms
 unfolding over
 over-all [] ms h = refl
 over-all (r ∷ row) [] h = absurd (not-suc-le-zero h)
 over-all (r ∷ row) (m ∷ ms) h = ap (λ (z : List Module). m ∷ z) (over-all row ms (le-of-suc-le-suc h))
-
-pub over-back : (ms row : List Module) → over ms (over row ms) ≡ ms
-unfolding over
-over-back [] row = refl
-over-back (m ∷ ms) [] = refl
-over-back (m ∷ ms) (r ∷ row) = ap (λ (z : List Module). m ∷ z) (over-back ms row)
-
-pub length-over : (row ms : List Module) → length (over row ms) ≡ length row
-unfolding over
-length-over [] ms = refl
-length-over (r ∷ row) [] = refl
-length-over (r ∷ row) (m ∷ ms) = ap suc (length-over row ms)

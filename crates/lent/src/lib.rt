@@ -2,6 +2,7 @@
 
 ghost use mathlib.Core.Path.{_≡_};
 ghost use mathlib.Core.Bool.{cond};
+ghost use lib.ListN.{take};
 ghost use lib.Dec.{ltb};
 ghost use Rattle.lent.specs.Loaded.{over, empty, loaded};
 use record::Module;
@@ -41,11 +42,22 @@ pub fn load(table: &[Module]) -> Table
     all
 }
 
-// Puts the records of a table by value over those of the lent one.
-pub fn store(table: &mut [Module], from: Table)
-    ensures { λ _. ⌜ now (table .exit) ≡ over (now (table .entry)) (from .modules) ⌝ }
+// The lesser of that and a count.
+fn least(n: usize, count: usize) -> usize
+    ensures { λ r. ⌜ r ≡ cond (ltb count (cond (ltb n 12) n 12)) count (cond (ltb n 12) n 12) ⌝ }
 {
-    let n = shorter(table.len());
+    let places = shorter(n);
+    if count < places {
+        return count;
+    }
+    places
+}
+
+// Puts the first records of a table by value, so many of them, over those of the lent one; no byte of the others is written.
+pub fn store(table: &mut [Module], from: Table, count: usize)
+    ensures { λ _. ⌜ now (table .exit) ≡ over (now (table .entry)) (take count (from .modules)) ⌝ }
+{
+    let n = least(table.len(), count);
     let mut i = 0;
     while i < n {
         table[i] = from.modules[i];

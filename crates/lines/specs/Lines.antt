@@ -1,4 +1,4 @@
--- The paper's lines marked P, and the two of source 000 that are no frames: each line says something of the definitions, and one list has them all.
+-- The worked lines of PROTOCOL's chapter 12 marked P, among them two of V3.3 that are no frames: each line says something of the definitions, and one list has them all.
 use mathlib.Core.Path.{_≡_}
 use mathlib.Core.List.{List, [], _∷_, _++_}
 use Prim.Native.Nat.{ℕ, _*_}

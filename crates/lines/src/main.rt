@@ -1,8 +1,8 @@
-// Runs the paper's lines to hold against that are not proved as one statement (specs/Lines.antt has those), and prints what each gives.
+// Runs the worked lines of PROTOCOL's chapter 12 that are not proved as one statement (specs/Lines.antt has those), and prints what each gives.
 
 use frame::Header;
-use infos::Taken;
 use libc::STDOUT_FILENO;
+use parts::front::Taken;
 use receiver::Event;
 use receiver::Receiver;
 
@@ -72,7 +72,7 @@ fn print_words(key: &[u8], count: u8, list: &[i16]) {
 
 // Reads the INFO of a 42H reply to ADR 02 and prints its fields.
 fn analog(name: &[u8], info: &[u8]) {
-    let found = analog_infos::take_analog(info, 2);
+    let found = analog::info::take_analog(info, 2);
     let taken = found.taken;
     let analog = found.analog;
     print_taken(name, taken);
@@ -90,7 +90,7 @@ fn analog(name: &[u8], info: &[u8]) {
 
 // Reads the INFO of a 92H reply to ADR 02 and prints its fields.
 fn limits(name: &[u8], info: &[u8]) {
-    let found = plain_infos::take_limits(info, 2);
+    let found = fixed::info::take_limits(info, 2);
     let taken = found.taken;
     let limits = found.limits;
     print_taken(name, taken);
@@ -139,7 +139,7 @@ fn main() {
         b"0002010D45010BAA0000C350FDE804FFFF000700FDE800FDE9",
     );
     hear(
-        b"source 000's reply, as printed:",
+        b"V3.3's reply, as printed:",
         b"~20024600F07A11020F0D450D440D450D44A0D4A0D4B0D4A0D4A0D4A050BC30BC30BC30BCD0BCD000C725FFF04FFF000200CA58012110E1A2\r",
     );
     hear(

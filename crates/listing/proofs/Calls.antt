@@ -4,8 +4,8 @@ use mathlib.Core.List.{List, [], _∷_, _++_, append-assoc, append-nil}
 use Prim.Native.Nat.{ℕ, zero, suc, _+_, _-_, _≤_, _<_}
 use native.Mathlib.Numerals.{one-add}
 use native.Mathlib.Omega.{arith}
-use lib.ListN.{length, take, drop, length-take, take-append-drop}
-use lib.Seq.{take-nil, take-at, drop-append-le}
+use lib.ListN.{length, take, drop, length-take, length-drop, take-append-drop}
+use lib.Seq.{take-nil, take-at, take-append-le, take-append-seam, drop-append-le}
 use lib.Dec.{leb, ltb}
 use borrow.Author.Tests.{le-leb, le-ltb}
 use Rattle.buffer.specs.Writing.{writing}
@@ -14,14 +14,15 @@ use Rattle.buffer.proofs.Writers.{writes-one}
 use Rattle.frame.specs.Judge.{Told, nothing, frame, refused}
 use Rattle.receiver.specs.Step.{step}
 use Rattle.receiver.proofs.Rows.{within}
-use Rattle.receiver.proofs.Receive.{Fits}
+use Rattle.receiver.specs.Pass.{Fits}
 use Rattle.listing.specs.declared.Listing.{Listing}
 use Rattle.listing.specs.declared.Listed.{Listed}
 use Rattle.texts.specs.Block.{Block, frameBlock, refusalBlock, blockOf, lines, framesIn, refusalsIn, totals, printed}
 use Rattle.listing.specs.Stream.{blocksOf, listingOf}
 use Rattle.listing.specs.Piece.{fresh, left, framesThen, refusalsThen, onward, soiOf, Part, rests, listing, Call, prints, list, Lists, closing}
-use Rattle.listing.specs.Calls.{Given, text, calls}
+use Rattle.listing.specs.Calls.{Given, text, Called, calls}
 use Rattle.texts.proofs.Texts.{lines-join, totals-short}
+use Rattle.listing.proofs.Parts.{list-few, list-offset}
 use Rattle.listing.proofs.Streams.{blocksHere, fits-step, counted-back}
 
 -- ---- one answer for one input
@@ -215,6 +216,51 @@ stood (g ∷ gs) l store stream s =
     let rest = drop (a .taken) stream in
     let z = calls (a .next) (a .store) rest gs in
     stood-then l store stream (a .next) (a .store) rest (text (a .left)) (z .next) (z .store) (z .rest) (z .said) one (stood gs (a .next) (a .store) rest (one .sound))
+
+-- ---- calls after calls
+
+-- with a text before
+abbrev pub saying : List ℕ → Called → Called
+saying before z = record { next = z .next; store = z .store; rest = z .rest; said = before ++ z .said }
+
+pub calls-join : (gs hs : List Given) (l : Listing) (store stream : List ℕ)
+    → calls l store stream (gs ++ hs) ≡ (let z = calls l store stream gs in saying (z .said) (calls (z .next) (z .store) (z .rest) hs))
+unfolding calls
+calls-join [] hs l store stream = refl
+calls-join (g ∷ gs) hs l store stream =
+    let a = list l store (take (g .most) stream) (g .out) in
+    let z = calls (a .next) (a .store) (drop (a .taken) stream) gs in
+    let y = calls (z .next) (z .store) (z .rest) hs in
+    ap (saying (text (a .left))) (calls-join gs hs (a .next) (a .store) (drop (a .taken) stream))
+    ∙ ap (λ (t : List ℕ). record { next = y .next; store = y .store; rest = y .rest; said = t }) (sym (append-assoc (text (a .left)) (z .said) (y .said)))
+
+-- the offset moves by what was taken
+pub calls-offset : (gs : List Given) (l : Listing) (store stream : List ℕ) → let z = calls l store stream gs in z .next .offset + length (z .rest) ≡ l .offset + length stream
+unfolding calls
+calls-offset [] l store stream = refl
+calls-offset (g ∷ gs) l store stream =
+    let piece = take (g .most) stream in
+    let a = list l store piece (g .out) in
+    omega (arith, calls-offset gs (a .next) (a .store) (drop (a .taken) stream), list-offset l store piece (g .out), list-few l store piece (g .out), length-drop (a .taken) stream, length-take (g .most) stream)
+
+-- where more bytes follow, calls over the same pieces leave the same, and those bytes besides
+pub calls-more : (gs : List Given) (l : Listing) (store stream more : List ℕ)
+    → let z = calls l store stream gs in (hs : List Given) × (calls l store (stream ++ more) hs ≡ record { next = z .next; store = z .store; rest = z .rest ++ more; said = z .said })
+unfolding calls
+calls-more [] l store stream more = ([], refl)
+calls-more (g ∷ gs) l store stream more =
+    let piece = take (g .most) stream in
+    let a = list l store piece (g .out) in
+    let h = calls-more gs (a .next) (a .store) (drop (a .taken) stream) more in
+    let few : length piece ≤ length stream = omega (arith, length-take (g .most) stream) in
+    let same : take (length piece) (stream ++ more) ≡ piece =
+    take-append-le (length piece) stream more few ∙ ap (take (length piece)) (sym (take-append-drop (g .most) stream)) ∙ take-append-seam piece (drop (g .most) stream) in
+    let rest : drop (a .taken) (stream ++ more) ≡ drop (a .taken) stream ++ more = drop-append-le (a .taken) stream more (omega (arith, list-few l store piece (g .out))) in (
+      record { most = length piece; out = g .out } ∷ h .0,
+      ap (λ (p : List ℕ). let x = list l store p (g .out) in saying (text (x .left)) (calls (x .next) (x .store) (drop (x .taken) (stream ++ more)) (h .0))) same
+          ∙ ap (λ (r : List ℕ). saying (text (a .left)) (calls (a .next) (a .store) r (h .0))) rest
+          ∙ ap (saying (text (a .left))) (h .1),
+    )
 
 -- ---- the theorem
 

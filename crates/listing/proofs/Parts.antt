@@ -25,15 +25,17 @@ use Rattle.receiver.specs.declared.Receiver.the-variants.{Waiting, Open}
 use Rattle.receiver.specs.declared.Ran.{Ran}
 use Rattle.receiver.specs.Step.{Kind, soi, cr, other, kind, After, stepBy, beyond, step, paper}
 use Rattle.receiver.specs.Run.{isNothing, countOf, Run, later, stops, stepping, run, runOf}
+use Rattle.receiver.specs.Pass.{Fits}
 use Rattle.receiver.specs.Stream.{after}
 use Rattle.receiver.proofs.Rows.{step-within, within}
 use Rattle.receiver.proofs.Running.{run-within-is}
-use Rattle.receiver.proofs.Receive.{Fits, after-fits}
+use Rattle.receiver.proofs.Receive.{after-fits}
 use Rattle.listing.specs.declared.Listing.{Listing}
 use Rattle.listing.specs.declared.Listed.{Listed}
 use Rattle.listing.specs.declared.Part.{Part as PartOf}
 use Rattle.texts.specs.Block.{Block, blockOf, frameLines, lines, totals}
-use Rattle.listing.specs.Piece.{left, framesThen, refusalsThen, onward, soiOf, Part, rests, behind, listing, Call, refuses, prints, list, Lists, closing, Inside, turn, Stands, Puts}
+use Rattle.listing.specs.Piece.{left, framesThen, refusalsThen, onward, soiOf, Part, rests, behind, listing, Call, refuses, prints, list, Lists, closing}
+use Rattle.listing.specs.Within.{Inside, turn, Stands, Puts}
 use Rattle.texts.proofs.Texts.{lines-join}
 
 -- ---- a frame that is told stands in the store
@@ -376,6 +378,16 @@ unfolding listing
 listing-some [] l store room h some = absurd (omega arith)
 listing-some (b ∷ bs) l store room h some = rw (le-leb 4200 room h) (omega arith)
 
+listing-offset : (piece : List ℕ) (l : Listing) (store : List ℕ) (room : ℕ) → listing l store room piece .next .offset ≡ l .offset + listing l store room piece .taken
+unfolding listing
+listing-offset [] l store room = omega arith
+listing-offset (b ∷ bs) l store room =
+    let a = step (l .receiver) store b in
+    let block = blockOf (soiOf l) (a .told) (a .store) in
+    by-cond (λ (p : Part). p .next .offset ≡ l .offset + p .taken) (leb 4200 room)
+    (λ t. omega (arith, listing-offset bs (onward l 1 (a .next) (a .told)) (a .store) (room - length (lines block))))
+    (λ t. omega arith)
+
 abbrev InsideOf : Left → Type 0
 InsideOf w = (n : ℕ) → w .outcome ≡ wrote n → n ≤ length (w .out)
 
@@ -389,13 +401,22 @@ module _ (l : Listing) (store piece out : List ℕ) where
   p : Part
   p = listing l store (length out) (take (left l) piece)
 
-  list-few : list l store piece out .taken ≤ length piece
+  pub list-few : list l store piece out .taken ≤ length piece
   unfolding list p
   list-few =
       by-cond (λ (a : Call). a .taken ≤ length piece) (ltb (length store) 4110) (λ t. omega arith)
       (λ t. by-cond (λ (a : Call). a .taken ≤ length piece) (ltb (length out) 4200) (λ t. omega arith)
       (λ t. by-cond (λ (a : Call). a .taken ≤ length piece) (beyond (l .receiver)) (λ t. omega arith)
       (λ t. omega (arith, listing-few (take (left l) piece) l store (length out), length-take (left l) piece))))
+
+  -- the offset moves by what was taken
+  pub list-offset : list l store piece out .next .offset ≡ l .offset + list l store piece out .taken
+  unfolding list p
+  list-offset =
+      by-cond (λ (a : Call). a .next .offset ≡ l .offset + a .taken) (ltb (length store) 4110) (λ t. omega arith)
+      (λ t. by-cond (λ (a : Call). a .next .offset ≡ l .offset + a .taken) (ltb (length out) 4200) (λ t. omega arith)
+      (λ t. by-cond (λ (a : Call). a .next .offset ≡ l .offset + a .taken) (beyond (l .receiver)) (λ t. omega arith)
+      (λ t. listing-offset (take (left l) piece) l store (length out))))
 
   -- where a call is not refused, and a byte is there that may be read, it takes one at least: calls come to an end
   pub list-some : 4110 ≤ length store → 4200 ≤ length out → countOf (l .receiver) ≤ 4110 → 0 < left l → 0 < length piece → 0 < list l store piece out .taken

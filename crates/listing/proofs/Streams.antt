@@ -18,9 +18,10 @@ use Rattle.receiver.specs.declared.Receiver.{Receiver}
 use Rattle.receiver.specs.declared.Receiver.the-variants.{Waiting, Open}
 use Rattle.receiver.specs.Step.{Kind, soi, cr, other, kind, After, gives, stepBy, step}
 use Rattle.receiver.specs.Run.{countOf}
+use Rattle.receiver.specs.Pass.{Fits}
 use Rattle.receiver.specs.Stream.{after}
 use Rattle.receiver.proofs.Rows.{step-within}
-use Rattle.receiver.proofs.Receive.{Fits, after-fits}
+use Rattle.receiver.proofs.Receive.{after-fits}
 use Rattle.receiver.proofs.Streams.{info-front}
 use Rattle.texts.specs.Block.{Block, refusalBlock, frameBlock, blockOf}
 use Rattle.listing.specs.Stream.{lastSoi, blocksFrom, blocksOf}

@@ -1,3 +1,6 @@
 pub mod Stream
 pub mod Piece
+pub mod Within
 pub mod Calls
+pub mod Stretches
+pub mod Made

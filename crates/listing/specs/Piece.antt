@@ -2,22 +2,18 @@
 use mathlib.Core.Path.{_≡_}
 use mathlib.Core.Bool.{cond}
 use mathlib.Core.List.{List, [], _∷_, _++_}
-use Prim.Native.Nat.{ℕ, suc, _+_, _-_, _%_, _≤_}
+use Prim.Native.Nat.{ℕ, suc, _+_, _-_, _%_}
 use lib.ListN.{length, take, drop}
 use lib.Dec.{leb, ltb}
-use Rattle.buffer.specs.declared.Written.{Written}
-use Rattle.buffer.specs.Put.{Put}
 use Rattle.buffer.specs.Writing.{wrote, refused as refusedBy, paper, Left, leaves, writing}
 use Rattle.frame.specs.Judge.{Told, nothing, frame, refused}
 use Rattle.receiver.specs.declared.Receiver.{Receiver}
 use Rattle.receiver.specs.declared.Receiver.the-variants.{Waiting}
 use Rattle.receiver.specs.Step.{beyond, step}
-use Rattle.receiver.specs.Run.{countOf, Run}
+use Rattle.receiver.specs.Run.{countOf}
 use Rattle.listing.specs.declared.Listing.{Listing}
-use Rattle.listing.specs.declared.Part.{Part as PartOf}
 use Rattle.listing.specs.declared.Listed.{Listed}
-use Rattle.frame.specs.Frame.{infoAt}
-use Rattle.texts.specs.Block.{Block, blockOf, sixLines, frameLines, lines, totals}
+use Rattle.texts.specs.Block.{Block, blockOf, lines, totals}
 
 abbrev pub fresh : Listing
 fresh = record { receiver = Waiting; offset = 0; frames = 0; refusals = 0 }
@@ -109,34 +105,3 @@ Lists l store piece out answer store′ out′ =
 -- what `close` leaves: 32 for a buffer below 38 bytes, or the two totals at its front
 abbrev pub closing : Listing → List ℕ → Left
 closing l out = writing 32 (leb 38 (length out)) (totals (l .frames) (l .refusals)) out
-
--- what a writer says that it wrote stands within its buffer
-abbrev pub Inside : Written → List ℕ → Type 0
-Inside written out = (n : ℕ) → paper written ≡ wrote n → n ≤ length out
-
--- ---- how a piece is listed run by run
-
--- what one run of the receiver gives: its event's block, whose SOI and characters stand before the byte of the event
-abbrev pub turn : Listing → Run → Part
-turn l a =
-    record {
-      next = onward l (a .taken) (a .next) (a .told);
-      store = a .store;
-      taken = a .taken;
-      blocks = blockOf (l .offset + a .taken - (a .held + 2)) (a .told) (a .store);
-    }
-
--- a frame's six lines, of the characters that stand in the store
-abbrev pub storedLines : ℕ → ℕ → List ℕ → List ℕ
-storedLines at lenid store = sixLines at (take 2 store) (take 2 (drop 2 store)) (take 2 (drop 4 store)) (take 2 (drop 6 store)) (infoAt lenid store)
-
--- a frame that is told stands in the store
-abbrev pub Stands : Told → List ℕ → Type 0
-Stands nothing store = Unit {0}
-Stands (frame h lenid) store = (lenid ≤ 4094) × ((at : ℕ) → storedLines at lenid store ≡ frameLines at h (infoAt lenid store))
-Stands (refused number) store = Unit {0}
-
--- a part was listed, and its lines put at place at
-pub record Puts (p : Part) (out : List ℕ) (at : ℕ) (answer : PartOf) (store′ out′ : List ℕ) : Type 0 where
-  pub part : record { next = answer .next; store = store′; taken = answer .taken; blocks = p .blocks } ≡ p
-  pub put : Put out at (lines (p .blocks)) out′ (answer .end)

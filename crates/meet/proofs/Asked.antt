@@ -14,7 +14,7 @@ use Rattle.frame.specs.declared.Header.{Header}
 use Rattle.frame.specs.Frame.{packed, seal, chars, Encodes}
 use Rattle.record.specs.declared.Module.{Module}
 use Rattle.record.specs.Address.{isAddress}
-use Rattle.rules.proofs.Fine.{both-true}
+use Rattle.table.proofs.rule.Fine.{both-true}
 use Rattle.table.specs.declared.Station.{Station}
 use Rattle.table.specs.Table.{isOn, isMaster, memberAt}
 use Rattle.table.specs.Rule.{rule}
@@ -22,12 +22,11 @@ use Rattle.command.specs.declared.Kind.{Kind}
 use Rattle.command.specs.declared.Kind.the-variants.{Analog, AnalogGroup, Alarm, AlarmGroup, Protocol, Maker, Limits, Serial, TurnOff, Version, Unserved}
 use Rattle.command.specs.Command.{kindOf, formOf, termsOf}
 use Rattle.command.specs.Heard.{Words, numberOf, words}
-use Rattle.says.specs.declared.Said.the-variants.{Code}
-use Rattle.says.specs.Says.{decide}
+use Rattle.standin.specs.Says.{Code, decide}
 use Rattle.standin.specs.Answer.{kindAsked}
 use Rattle.standin.proofs.Members.{member-adr, member-fine}
-use Rattle.gate.specs.declared.Question.{Question}
-use Rattle.gate.specs.Gate.{asks}
+use Rattle.reply.specs.declared.gate.Question.{Question}
+use Rattle.reply.specs.Gate.{asks}
 use Rattle.meet.specs.Asked.{questionHeader, questionInfo, asking, AskedBytes, faultFor}
 use Rattle.meet.proofs.Meet.{wordsFor, words-of}
 

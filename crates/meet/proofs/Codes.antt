@@ -11,24 +11,22 @@ use Rattle.table.specs.declared.Station.{Station}
 use Rattle.table.specs.Table.{isOn, hasFault, isMaster, memberAt, anyFault}
 use Rattle.command.specs.Command.{kindOf, termsOf}
 use Rattle.command.specs.Heard.{Words, numberOf}
-use Rattle.says.specs.declared.Said.{Said}
-use Rattle.says.specs.declared.Said.the-variants.{Silent, Code}
-use Rattle.says.specs.Says.{decide}
-use Rattle.gate.specs.Gate.{isCode}
+use Rattle.standin.specs.Says.{Speech, Silent, Code, decide}
+use Rattle.reply.specs.Gate.{isReturnCode}
 
 abbrev pub Known : ℕ → Type 0
-Known code = (isCode code ≡ true) × (code < 256)
+Known code = (isReturnCode code ≡ true) × (code < 256)
 
-line : (test : Bool) (k : ℕ) (rest : Said) (code : ℕ) → Known k → (rest ≡ Code code → Known code) → cond test (Code k) rest ≡ Code code → Known code
+line : (test : Bool) (k : ℕ) (rest : Speech) (code : ℕ) → Known k → (rest ≡ Code code → Known code) → cond test (Code k) rest ≡ Code code → Known code
 line true k rest code f g e = let z : k ≡ code = cc in subst Known z f
 line false k rest code f g e = g e
 
-hush : (test : Bool) (rest : Said) (code : ℕ) → (rest ≡ Code code → Known code) → cond test Silent rest ≡ Code code → Known code
+hush : (test : Bool) (rest : Speech) (code : ℕ) → (rest ≡ Code code → Known code) → cond test Silent rest ≡ Code code → Known code
 hush true rest code g e = never (cc)
 hush false rest code g e = g e
 
 pub said-known : (st : Station) (ms : List Module) (w : Words) (code : ℕ) → decide st ms w ≡ Code code → Known code
-unfolding decide isCode
+unfolding decide isReturnCode
 said-known st ms w code =
     let number = numberOf (w .told) in
     let adr = w .header .adr in

@@ -22,19 +22,19 @@ use Rattle.record.specs.Alarm.{alarm}
 use Rattle.record.specs.Limits.{limits}
 use Rattle.record.specs.Texts.{serial, version, maker}
 use Rattle.record.specs.Infos.{command, analogInfo, alarmInfo, limitsInfo, serialInfo, versionInfo, some-analog, some-alarm, analogGroup, alarmGroup}
-use Rattle.infos.specs.Nothing.{nothing}
+use Rattle.record.specs.Infos.{makerInfo, emptyInfo}
 use Rattle.table.specs.declared.Station.{Station}
 use Rattle.table.specs.Table.{isOn, memberAt, oneIf, countOn}
 use Rattle.table.specs.Rule.{rising, rule}
-use Rattle.rules.proofs.Fine.{Fine, fine-parts, rising-parts, rule-parts}
+use Rattle.table.proofs.rule.Fine.{Fine, fine-parts, rising-parts, rule-parts}
 use Rattle.groups.specs.Groups.{valuesOn, analogsOn, alarmsOn}
 use Rattle.command.specs.declared.Kind.{Kind}
 use Rattle.command.specs.declared.Kind.the-variants.{Analog, AnalogGroup, Alarm, AlarmGroup, Protocol, Maker, Limits, Serial, TurnOff, Version, Unserved}
-use Rattle.command.specs.Command.{termsOf}
+use Rattle.command.specs.Command.{paper, termsOf}
 use Rattle.standin.specs.Answer.{infoBy}
 use Rattle.standin.proofs.Members.{member-fine}
 use Rattle.reply.specs.Read.{took}
-use Rattle.meet.specs.Copied.{OfBytes, copied, makerFor, isGroup, Alike}
+use Rattle.meet.specs.Copied.{OfBytes, copied, makerFor, Alike}
 
 pub yes : {b : Bool} → b ≡ true → T b
 yes e = subst T (sym e) tt
@@ -79,9 +79,9 @@ bytes-row zero (x ∷ l) b e = absurd (omega arith)
 bytes-row (suc n) [] b e = absurd (omega arith)
 bytes-row (suc n) (x ∷ l) b e = yes-and (ltb x 256) (row-ok byte n l) (lt→ltb x 256 (b .0)) (bytes-row n l (b .1) (omega arith))
 
-maker-read : (l : List ℕ) → Bytes l → length l ≡ 32 → maker .get l ≡ told l
-unfolding maker
-maker-read l b e = ap (maker .get) (sym (row-bytes byte (λ a. refl) l)) ∙ maker .there l (bytes-row 32 l b e)
+pub maker-read : (l : List ℕ) → Bytes l → length l ≡ 32 → makerInfo .get l ≡ told l
+unfolding makerInfo maker
+maker-read l b e = ap (makerInfo .get) (sym (row-bytes byte (λ a. refl) l)) ∙ makerInfo .there l (bytes-row 32 l b e)
 
 -- ---- of a member that is on, in a table that keeps its rule
 module _ (st : Station) (bytes : OfBytes st) (ms : List Module) (keeps : rule ms ≡ true) (adr : ℕ) (small : adr < 256) (on : isOn (memberAt adr ms) ≡ true) where
@@ -137,7 +137,7 @@ module _ (st : Station) (bytes : OfBytes st) (ms : List Module) (keeps : rule ms
   -- read into a table ms′, with the flag 0
   module _ (ms′ : List Module) where
     pub data-read : (k : Kind) → termsOf k .served ≡ true → Alike k ms ms′ → took k ms′ adr (infoBy k st ms adr) ≡ told (0, (makerFor k st, copied k adr ms ms′))
-    unfolding infoBy took copied makerFor isGroup termsOf nothing
+    unfolding infoBy took copied makerFor paper termsOf emptyInfo
     data-read Analog s a = rw (analogInfo adr .there ((0, adr), memberAt adr ms .analog) analog-ok)
     data-read AnalogGroup s a = rw (analogGroup .there ((0, 0xFF), analogsOn ms) analogs-ok, eq-eqb (length (analogsOn ms)) (countOn ms′) (on-count (λ x. x .analog) ms ∙ a tt))
     data-read Alarm s a = rw (alarmInfo adr .there ((0, adr), memberAt adr ms .alarm) alarm-ok)

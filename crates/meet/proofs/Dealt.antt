@@ -13,7 +13,7 @@ use Rattle.record.specs.declared.Module.{Module}
 use Rattle.record.specs.declared.Analog.{Analog as AnalogRecord}
 use Rattle.record.specs.declared.Alarm.{Alarm as AlarmRecord}
 use Rattle.table.specs.Table.{blank, isOn, placeOf, memberAt, oneIf, countOn}
-use Rattle.changes.specs.Changes.{replaced, dealt, withAnalog, withAlarm}
+use Rattle.table.specs.Changes.{replaced, dealt, withAnalog, withAlarm}
 use Rattle.groups.specs.Groups.{valuesOn, analogsOn, alarmsOn}
 use Rattle.command.specs.declared.Kind.{Kind}
 use Rattle.command.specs.declared.Kind.the-variants.{Analog, AnalogGroup, Alarm, AlarmGroup, Protocol, Maker, Limits, Serial, TurnOff, Version, Unserved}

@@ -16,10 +16,10 @@ use Rattle.record.specs.Analog.{analog}
 use Rattle.record.specs.Alarm.{alarm}
 use Rattle.record.specs.Limits.{limits}
 use Rattle.record.specs.Texts.{serial, version}
-use Rattle.rules.proofs.Fine.{Fine, fine-parts, rising-parts, rule-parts}
+use Rattle.table.proofs.rule.Fine.{Fine, fine-parts, rising-parts, rule-parts}
 use Rattle.table.specs.Table.{blank, isOn, placeOf, memberAt}
 use Rattle.table.specs.Rule.{encodable, fine, rising, rule}
-use Rattle.changes.specs.Changes.{replaced, dealt, withAnalog, withAlarm, withLimits, withSerial, withVersion, switchedOff}
+use Rattle.table.specs.Changes.{replaced, dealt, withAnalog, withAlarm, withLimits, withSerial, withVersion, switchedOff}
 use Rattle.standin.specs.Answer.{offAt}
 
 -- ---- records that keep their ADRs and stay fine

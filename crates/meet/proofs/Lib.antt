@@ -9,3 +9,6 @@ pub mod Off
 pub mod Vectors
 pub mod Asked
 pub mod Ones
+pub mod Records
+pub mod Sends
+pub mod Again

@@ -1,27 +1,22 @@
 -- What the stand-in's table holds after its answer: with an accepted 95H one module is off, after any other answer all is as it was. List work on the place that is set.
 use mathlib.Core.Path.{_≡_, refl, sym, ap, _∙_}
 use mathlib.Core.Logic.{⊎-elim}
-use mathlib.Core.Bool.{Bool, true, false, cond, not, _||_}
+use mathlib.Core.Bool.{Bool, true, false, cond, not, _||_, and-false}
 use mathlib.Core.List.{List, [], _∷_}
 use Prim.Native.Nat.{ℕ, _≤_, _<_}
+use native.Mathlib.Nat.{le-refl}
 use lib.ListN.{length, getD, set, length-set, List·getD-eq-default}
 use lib.Seq.{set-out, getD-set-same, getD-set-other}
-use lib.Dec.{eqb}
-use borrow.Author.Tests.{ne-eqb}
+use lib.Dec.{ltb, eqb}
+use borrow.Author.Tests.{eq-eqb, ne-eqb}
 use Rattle.codec.proofs.Places.{le-or-lt}
 use Rattle.record.specs.declared.Module.{Module}
-use Rattle.rules.proofs.Fine.{rule-parts}
 use Rattle.table.specs.declared.Station.{Station}
-use Rattle.table.specs.Table.{blank, isOn, placeOf, memberAt}
-use Rattle.table.specs.Rule.{rule}
-use Rattle.command.specs.declared.Kind.{Kind}
-use Rattle.command.specs.declared.Kind.the-variants.{Analog, AnalogGroup, Alarm, AlarmGroup, Protocol, Maker, Limits, Serial, TurnOff, Version, Unserved}
+use Rattle.table.specs.Table.{blank, isOn, placeOf, hasMember, memberAt}
 use Rattle.command.specs.Heard.{Words, numberOf}
-use Rattle.changes.specs.Changes.{switchedOff}
-use Rattle.says.specs.declared.Said.{Said}
-use Rattle.says.specs.declared.Said.the-variants.{Silent}
-use Rattle.says.specs.Says.{decide}
-use Rattle.standin.specs.Answer.{kindAsked, offBy, offFor, offAt}
+use Rattle.table.specs.Changes.{switchedOff}
+use Rattle.standin.specs.Says.{Speech, Silent, decide}
+use Rattle.standin.specs.Answer.{offFor, offAt}
 use Rattle.meet.specs.Off.{TurnedOff}
 use Rattle.meet.proofs.Kept.{Changed, set-changed, off-safe, off-rule}
 
@@ -32,7 +27,14 @@ changed-place adr [] (n ∷ ns) c = absurd c
 changed-place adr (m ∷ ms) [] c = absurd c
 changed-place adr (m ∷ ms) (n ∷ ns) c = rw (c .0 .0, changed-place adr ms ns (c .1))
 
-quiet : (a b : Bool) (rest : Said) → b ≡ true → cond a Silent (cond b Silent rest) ≡ Silent
+-- who is in the table stays in it
+pub off-has : (adr i : ℕ) (ms : List Module) → hasMember adr (offAt i ms) ≡ hasMember adr ms
+unfolding hasMember offAt
+off-has adr i ms =
+    let x = switchedOff (getD ms i blank) in
+    λ k. ltb (changed-place adr ms (set ms i x) (set-changed switchedOff off-safe ms i blank) k) (length-set ms i x k)
+
+quiet : (a b : Bool) (rest : Speech) → b ≡ true → cond a Silent (cond b Silent rest) ≡ Silent
 quiet true b rest e = refl
 quiet false true rest e = refl
 quiet false false rest e = ap (λ (t : Bool). cond t Silent rest) e
@@ -76,33 +78,20 @@ module _ (adr : ℕ) (ms : List Module) where
 -- ---- the place that the stand-in's answer names
 
 -- an accepted 95H: the module with that ADR
-pub accepted-off : (ms : List Module) (w : Words) → kindAsked w ≡ TurnOff → TurnedOff (w .header .adr) ms (offAt (offFor ms w 0) ms)
-unfolding offFor offBy
-accepted-off ms w e = rw e (turned-off (w .header .adr) ms)
+pub accepted-off : (none : ℕ) (ms : List Module) (w : Words) → w .header .cid2 ≡ 0x95 → TurnedOff (w .header .adr) ms (offAt (offFor none ms w 0) ms)
+unfolding offFor
+accepted-off none ms w e = rw (eq-eqb (w .header .cid2) 0x95 e) (turned-off (w .header .adr) ms)
 
-stays : (ms : List Module) → rule ms ≡ true → offAt 12 ms ≡ ms
+-- the count is past every record
+pub none-off : (ms : List Module) → offAt (length ms) ms ≡ ms
 unfolding offAt
-stays ms e = set-out ms 12 (switchedOff (getD ms 12 blank)) (rule-parts ms e .few)
+none-off ms = set-out ms (length ms) (switchedOff (getD ms (length ms) blank)) (le-refl (length ms))
 
 -- another code, or another command: no record
-pub refused-stays : (ms : List Module) (w : Words) (code : ℕ) → rule ms ≡ true → (code ≡ 0 → ⊥) → offAt (offFor ms w code) ms ≡ ms
+pub refused-stays : (ms : List Module) (w : Words) (code : ℕ) → (code ≡ 0 → ⊥) → offAt (offFor (length ms) ms w code) ms ≡ ms
 unfolding offFor
-refused-stays ms w code e n = rw (ne-eqb code 0 n) (stays ms e)
+refused-stays ms w code n = rw (ne-eqb code 0 n) (none-off ms)
 
-by-kind : (k : Kind) (ms : List Module) (adr : ℕ) → (k ≡ TurnOff → ⊥) → offBy k ms adr ≡ 12
-unfolding offBy
-by-kind Analog ms adr n = refl
-by-kind AnalogGroup ms adr n = refl
-by-kind Alarm ms adr n = refl
-by-kind AlarmGroup ms adr n = refl
-by-kind Protocol ms adr n = refl
-by-kind Maker ms adr n = refl
-by-kind Limits ms adr n = refl
-by-kind Serial ms adr n = refl
-by-kind TurnOff ms adr n = absurd (n refl)
-by-kind Version ms adr n = refl
-by-kind Unserved ms adr n = refl
-
-pub other-stays : (ms : List Module) (w : Words) → rule ms ≡ true → (kindAsked w ≡ TurnOff → ⊥) → offAt (offFor ms w 0) ms ≡ ms
+pub other-stays : (ms : List Module) (w : Words) (code : ℕ) → (w .header .cid2 ≡ 0x95 → ⊥) → offAt (offFor (length ms) ms w code) ms ≡ ms
 unfolding offFor
-other-stays ms w e n = rw (by-kind (kindAsked w) ms (w .header .adr) n) (stays ms e)
+other-stays ms w code n = rw (ne-eqb (w .header .cid2) 0x95 n, and-false (eqb code 0)) (none-off ms)

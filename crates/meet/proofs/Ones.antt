@@ -6,14 +6,14 @@ use Rattle.refusal.specs.Number.{number}
 use Rattle.refusal.proofs.Numbers.{number-injective}
 use Rattle.buffer.proofs.Lists.{never}
 use Rattle.table.specs.declared.Table.{Table}
-use Rattle.changes.proofs.Ones.{table-one}
+use Rattle.table.proofs.changes.Ones.{table-one}
 use Rattle.standin.specs.declared.Answered.{Answered}
 use Rattle.standin.specs.declared.Answered.the-variants.{Silence, Reply, Refused}
 use Rattle.standin.specs.declared.Replied.{Replied}
 use Rattle.standin.specs.Answer as Answer
-use Rattle.gate.specs.declared.Entry as E
-use Rattle.gate.specs.declared.Entry.the-variants.{Open, Refused as Shut}
-use Rattle.gate.specs.Gate as Gate
+use Rattle.reply.specs.declared.gate.Entry as E
+use Rattle.reply.specs.declared.gate.Entry.the-variants.{Open, Refused as Shut}
+use Rattle.reply.specs.Gate as Gate
 use Rattle.reply.proofs.Ways.{number-some}
 use Rattle.reply.specs.declared.Outcome as O
 use Rattle.reply.specs.declared.Outcome.the-variants.{Read, Refused as Declined}

@@ -19,22 +19,22 @@ use Rattle.record.specs.declared.Module.{Module}
 use Rattle.record.specs.Analog.{analog}
 use Rattle.record.specs.Alarm.{alarm}
 use Rattle.record.specs.Limits.{limits}
-use Rattle.record.specs.Texts.{serial, version, maker}
+use Rattle.record.specs.Texts.{serial, version}
 use Rattle.record.specs.Infos.{command, analogInfo, alarmInfo, limitsInfo, serialInfo, versionInfo, some-analog, some-alarm, analogGroup, alarmGroup}
-use Rattle.infos.specs.Nothing.{nothing}
-use Rattle.rules.proofs.Rules.{is-true}
-use Rattle.rules.proofs.Fine.{keeps-parts}
+use Rattle.record.specs.Infos.{makerInfo, emptyInfo}
+use Rattle.table.proofs.rule.Rules.{is-true}
+use Rattle.table.proofs.rule.Fine.{keeps-parts}
 use Rattle.table.specs.declared.Table.{Table}
 use Rattle.table.specs.Table.{members, countOn}
 use Rattle.table.specs.Rule.{rule, keeps}
-use Rattle.changes.specs.Changes.{dealt, withAnalog, withAlarm, withLimits, withSerial, withVersion}
+use Rattle.table.specs.Changes.{dealt, withAnalog, withAlarm, withLimits, withSerial, withVersion}
 use Rattle.command.specs.declared.Kind.{Kind}
 use Rattle.command.specs.declared.Kind.the-variants.{Analog, AnalogGroup, Alarm, AlarmGroup, Protocol, Maker, Limits, Serial, TurnOff, Version, Unserved}
 use Rattle.command.specs.Command.{formOf}
 use Rattle.command.specs.Heard.{words}
-use Rattle.gate.specs.declared.Question.{Question}
+use Rattle.reply.specs.declared.gate.Question.{Question}
 use Rattle.reply.specs.declared.Reading.{Reading}
-use Rattle.gate.specs.Gate.{gate}
+use Rattle.reply.specs.Gate.{gate}
 use Rattle.reply.specs.Read.{Data, Left, took, forAll, given, readReply, Reads}
 use Rattle.meet.proofs.Kept.{Oks, replaced-rule, dealt-rule, analog-safe, alarm-safe, limits-safe, serial-safe, version-safe}
 
@@ -86,15 +86,15 @@ module _ (ms : List Module) (e : rule ms ≡ true) (adr : ℕ) (info : List ℕ)
   took-rule AlarmGroup =
       all alarmGroup info bytes withAlarm ms e
       (λ x t. dealt-rule alarm withAlarm alarm-safe ms (x .1) (many-oks alarm some-alarm 12 (x .1) (and-yes ((byte then command 0xFF) .ok (x .0)) (many-ok alarm some-alarm 12 (x .1)) t .1)) e)
-  took-rule Protocol = one nothing info bytes _ (λ x t. e)
-  took-rule Maker = one maker info bytes _ (λ x t. e)
+  took-rule Protocol = one emptyInfo info bytes _ (λ x t. e)
+  took-rule Maker = one makerInfo info bytes _ (λ x t. e)
   took-rule Limits =
       one (limitsInfo adr) info bytes _
       (λ x t. replaced-rule (withLimits (x .1)) (limits-safe (x .1) (is-true _ (and-yes (command adr .ok (x .0)) (limits .ok (x .1)) t .1))) adr ms e)
   took-rule Serial =
       one (serialInfo adr) info bytes _
       (λ x t. replaced-rule (withSerial (x .1)) (serial-safe (x .1) (is-true _ (and-yes (command adr .ok (x .0)) (serial .ok (x .1)) t .1))) adr ms e)
-  took-rule TurnOff = one nothing info bytes _ (λ x t. e)
+  took-rule TurnOff = one emptyInfo info bytes _ (λ x t. e)
   took-rule Version =
       one (versionInfo adr) info bytes _
       (λ x t. replaced-rule (withVersion (x .1)) (version-safe (x .1) (is-true _ (and-yes (command adr .ok (x .0)) (version .ok (x .1)) t .1))) adr ms e)

@@ -11,18 +11,16 @@ use Rattle.buffer.proofs.Lists.{by-cond}
 use Rattle.hex.specs.Hex.{Bytes, byteAt}
 use Rattle.hex.proofs.Laws.{byte-small}
 use Rattle.frame.specs.declared.Header.{Header}
-use Rattle.frame.specs.Frame.{SOI, CR, chars, encode, Encodes}
+use Rattle.frame.specs.Frame.{SOI, CR, chars, encode, Encodes, between}
 use Rattle.frame.specs.Judge.{frame, header}
 use Rattle.frame.proofs.Steps.{length-chars, length-encode}
-use Rattle.frame.proofs.Round.{between}
 use Rattle.receiver.specs.Stream.{toldAt}
 use Rattle.receiver.proofs.Streams.{sent}
 use Rattle.record.specs.declared.Module.{Module}
 use Rattle.table.specs.declared.Station.{Station}
 use Rattle.table.specs.Rule.{rule}
 use Rattle.command.specs.Heard.{Words, words}
-use Rattle.says.specs.declared.Said.the-variants.{Code}
-use Rattle.says.specs.Says.{decide}
+use Rattle.standin.specs.Says.{Code, decide}
 use Rattle.standin.specs.Answer.{kindAsked, infoFor, replyHeader}
 use Rattle.standin.proofs.Filled.{info-length}
 use Rattle.standin.proofs.Replies.{said-on}

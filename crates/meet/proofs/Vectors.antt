@@ -12,7 +12,7 @@ use Rattle.frame.specs.Judge.{need, header, lenid, judge}
 use Rattle.record.specs.declared.Module.{Module}
 use Rattle.record.specs.Address.{isAddress}
 use Rattle.record.specs.Analog.{analog, measured}
-use Rattle.record.specs.Alarm.{alarm, codes, singles, isCode}
+use Rattle.record.specs.Alarm.{alarm, codes, singles, isAlarmCode}
 use Rattle.record.specs.Capacities.{capacities}
 use Rattle.record.specs.Limits.{limits}
 use Rattle.record.specs.Texts.{serial, version}
@@ -21,11 +21,10 @@ use Rattle.table.specs.Table.{placeOf, hasMember, memberAt, isMaster, anyFault}
 use Rattle.table.specs.Rule.{encodable, fine, rising, rule}
 use Rattle.command.specs.Command.{kindOf, formOf, termsOf}
 use Rattle.command.specs.Heard.{numberOf, words}
-use Rattle.says.specs.declared.Said.the-variants.{Silent, Code}
-use Rattle.says.specs.Says.{decide}
-use Rattle.changes.specs.Changes.{switchedOff}
-use Rattle.standin.specs.Answer.{infoBy, infoFor, replyHeader, offBy, offFor, offAt}
-use Rattle.gate.specs.Gate.{asks}
+use Rattle.standin.specs.Says.{Silent, Code, decide}
+use Rattle.table.specs.Changes.{switchedOff}
+use Rattle.standin.specs.Answer.{infoBy, infoFor, replyHeader, offFor, offAt}
+use Rattle.reply.specs.Gate.{asks}
 use Rattle.meet.specs.Copied.{OfBytes}
 
 -- the master of a group of one, on, with one cell and one temperature
@@ -68,7 +67,7 @@ abbrev pub question : List ℕ
 question = 50 ∷ 48 ∷ 48 ∷ 50 ∷ 52 ∷ 54 ∷ 52 ∷ 70 ∷ 48 ∷ 48 ∷ 48 ∷ 48 ∷ 70 ∷ 68 ∷ 57 ∷ 56 ∷ []
 
 pub keeps-rule : rule (master ∷ []) ≡ true
-unfolding rule rising fine encodable isAddress analog measured capacities alarm codes singles isCode limits serial version
+unfolding rule rising fine encodable isAddress analog measured capacities alarm codes singles isAlarmCode limits serial version
 keeps-rule = refl
 
 bytes-all : (n b : ℕ) → b < 256 → Bytes (replicate n b)
@@ -108,8 +107,8 @@ unfolding decide words judge need header lenid allHex isHex digitOf byteOf byteA
 off-says-00 = refl
 
 -- that one module is off, and all else as it was
-pub off-after : offAt (offFor (master ∷ []) (words turn-off) 0) (master ∷ []) ≡ switchedOff master ∷ []
-unfolding offAt offFor offBy formOf kindOf words judge need header lenid allHex isHex digitOf byteOf byteAt wordAt lchksum sum chksum placeOf
+pub off-after : offAt (offFor 1 (master ∷ []) (words turn-off) 0) (master ∷ []) ≡ switchedOff master ∷ []
+unfolding offAt offFor words judge need header lenid allHex isHex digitOf byteOf byteAt wordAt lchksum sum chksum placeOf
 off-after = refl
 
 pub then-silent : decide station (switchedOff master ∷ []) (words turn-off) ≡ Silent

@@ -8,7 +8,7 @@ use Rattle.frame.specs.Frame.{chars}
 use Rattle.record.specs.declared.Module.{Module}
 use Rattle.table.specs.Table.{hasFault, memberAt, anyFault}
 use Rattle.command.specs.Command.{kindOf, termsOf}
-use Rattle.gate.specs.declared.Question.{Question}
+use Rattle.reply.specs.declared.gate.Question.{Question}
 
 abbrev pub questionHeader : ℕ → Question → Header
 questionHeader ver q = record { ver = ver; adr = q .adr; cid1 = 0x46; cid2 = q .cid2 }

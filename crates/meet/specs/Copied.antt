@@ -1,20 +1,20 @@
--- What the reply reader hands back of a reply that the stand-in sent: with 00H the asked fields of the stand-in's records, with another code nothing.
+-- What the reply reader hands back of a reply with 00H that the stand-in sent: the asked fields of the stand-in's records, for 51H its 32 bytes.
 use mathlib.Core.Path.{_≡_}
-use mathlib.Core.Bool.{Bool, true, false, cond}
+use mathlib.Core.Bool.{cond}
 use mathlib.Core.List.{List}
 use Prim.Native.Nat.{ℕ, _<_}
 use lib.ListN.{length}
 use lib.Dec.{T, eqb}
 use Rattle.hex.specs.Hex.{Bytes}
 use Rattle.record.specs.declared.Module.{Module}
-use Rattle.infos.specs.Nothing.{noMaker}
+use Rattle.record.specs.Nothing.{noMaker}
 use Rattle.table.specs.declared.Station.{Station}
 use Rattle.table.specs.Table.{memberAt, countOn}
-use Rattle.changes.specs.Changes.{replaced, dealt, withAnalog, withAlarm, withLimits, withSerial, withVersion}
+use Rattle.table.specs.Changes.{replaced, dealt, withAnalog, withAlarm, withLimits, withSerial, withVersion}
 use Rattle.groups.specs.Groups.{analogsOn, alarmsOn}
 use Rattle.command.specs.declared.Kind.{Kind}
 use Rattle.command.specs.declared.Kind.the-variants.{Analog, AnalogGroup, Alarm, AlarmGroup, Protocol, Maker, Limits, Serial, TurnOff, Version, Unserved}
-use Rattle.reply.specs.Read.{Left, leaves, read}
+use Rattle.command.specs.Command.{paper}
 
 -- VER and the 32 bytes of 51H are bytes
 pub record OfBytes (st : Station) : Type 0 where
@@ -38,38 +38,8 @@ copied Unserved adr ms ms′ = ms′
 
 -- the stand-in's 32 bytes for 51H, zeros for every other command
 unfoldable pub makerFor : Kind → Station → List ℕ
-makerFor Analog st = noMaker
-makerFor AnalogGroup st = noMaker
-makerFor Alarm st = noMaker
-makerFor AlarmGroup st = noMaker
-makerFor Protocol st = noMaker
-makerFor Maker st = st .maker
-makerFor Limits st = noMaker
-makerFor Serial st = noMaker
-makerFor TurnOff st = noMaker
-makerFor Version st = noMaker
-makerFor Unserved st = noMaker
-
-unfoldable pub readBack : Kind → Station → ℕ → ℕ → List Module → List Module → Left
-readBack kind st code adr ms ms′ =
-    cond (eqb code 0)
-    (leaves (read (st .ver) 0 0) (makerFor kind st) (copied kind adr ms ms′))
-    (leaves (read (st .ver) code 0) noMaker ms′)
-
--- the two forms with FFH
-unfoldable pub isGroup : Kind → Bool
-isGroup Analog = false
-isGroup AnalogGroup = true
-isGroup Alarm = false
-isGroup AlarmGroup = true
-isGroup Protocol = false
-isGroup Maker = false
-isGroup Limits = false
-isGroup Serial = false
-isGroup TurnOff = false
-isGroup Version = false
-isGroup Unserved = false
+makerFor kind st = cond (eqb (paper kind .cid2) 0x51) (st .maker) noMaker
 
 -- with FFH, as many members are on in both tables
 abbrev pub Alike : Kind → List Module → List Module → Type 0
-Alike kind ms ms′ = T (isGroup kind) → countOn ms ≡ countOn ms′
+Alike kind ms ms′ = T (paper kind .group) → countOn ms ≡ countOn ms′

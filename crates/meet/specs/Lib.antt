@@ -1,3 +1,5 @@
 pub mod Copied
+pub mod Read
 pub mod Off
 pub mod Asked
+pub mod Records

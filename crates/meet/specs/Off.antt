@@ -10,9 +10,8 @@ use Rattle.table.specs.declared.Station.{Station}
 use Rattle.table.specs.Table.{placeOf, memberAt}
 use Rattle.table.specs.Rule.{rule}
 use Rattle.command.specs.Heard.{Words}
-use Rattle.changes.specs.Changes.{switchedOff}
-use Rattle.says.specs.declared.Said.the-variants.{Silent}
-use Rattle.says.specs.Says.{decide}
+use Rattle.table.specs.Changes.{switchedOff}
+use Rattle.standin.specs.Says.{Silent, decide}
 
 pub record TurnedOff (adr : ℕ) (ms ns : List Module) : Type 0 where
   pub count : length ns ≡ length ms

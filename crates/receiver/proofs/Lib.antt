@@ -6,3 +6,5 @@ pub mod Receive
 pub mod Streams
 pub mod Pieces
 pub mod Bound
+pub mod There
+pub mod Demand

@@ -17,13 +17,13 @@ use Rattle.frame.proofs.Judging.{judge-accepts, whole-good, whole-count}
 use Rattle.receiver.specs.declared.Receiver.{Receiver}
 use Rattle.receiver.specs.declared.Receiver.the-variants.{Waiting, Open}
 use Rattle.receiver.specs.Step.{Kind, soi, cr, other, kind, After, stepBy, step}
-use Rattle.receiver.specs.Run.{countOf}
+use Rattle.receiver.specs.Pass.{Fits}
 use Rattle.receiver.specs.Stream.{after, toldAfter}
 use Rattle.receiver.proofs.Rows.{is-soi, is-cr, is-other, step-within}
 
 -- ---- kinds of bytes
 
-kind-soi : (b : ℕ) → kind b ≡ soi → b ≡ SOI
+pub kind-soi : (b : ℕ) → kind b ≡ soi → b ≡ SOI
 unfolding kind
 kind-soi b =
     by-cond (λ (k : Kind). k ≡ soi → b ≡ SOI) (eqb b SOI) (λ t e. eqb→eq b SOI t)
@@ -47,10 +47,6 @@ held (Open n) store = some (take n store)
 
 abbrev pub holds : After → Option (List ℕ)
 holds a = held (a .next) (a .store)
-
--- a store that is long enough, and a count that it can hold
-abbrev pub Fits : Receiver → List ℕ → Type 0
-Fits r store = (4110 ≤ length store) × (countOf r ≤ 4110)
 
 -- a byte that leaves the receiver open: an SOI, or one more character
 abbrev Grown : Option (List ℕ) → ℕ → List ℕ → Type 0

@@ -1,32 +1,33 @@
--- The receiver over a stream, by places: list work over `heard`, the machine is not looked at again.
+-- The receiver over a stream, by places: list work over `heard`, the machine is not looked at again. A damaged stretch shares no place with a whole encoding.
 use mathlib.Core.Path.{_≡_, refl, sym, ap, _∙_, subst}
 use mathlib.Core.Logic.{_⊎_, inl, inr, _↔_, _≢_}
-use mathlib.Core.List.{List, [], _∷_, _++_, head-eq-of-cons-eq, tail-eq-of-cons-eq}
+use mathlib.Core.List.{List, [], _∷_, _++_, append-assoc, head-eq-of-cons-eq, tail-eq-of-cons-eq}
 use Prim.Native.Nat.{ℕ, zero, suc, _+_, _-_, _%_, _≤_, _<_}
 use native.Mathlib.Numerals.{add-one}
 use native.Mathlib.Decide.{decLt}
 use native.Mathlib.Omega.{arith}
 use lib.ListN.{length, getD, take, drop, set, length-append, length-drop, take-append-drop, List·getD-eq-default, List·getD-append}
-use lib.Seq.{set-split, take-suc, drop-cons, append-snoc, slice, length-take-le, getD-take, getD-append-seam, getD-append-add, take-append-add, drop-append-add, drop-append-le, split-at, take-append-le, take-at, length-slice}
+use lib.Seq.{set-split, take-suc, take-take, drop-cons, append-snoc, slice, length-take-le, getD-take, getD-drop, getD-append-seam, getD-append-add, take-append-add, drop-append-add, drop-append-le, split-at, take-append-le, take-at, length-slice}
 use Rattle.buffer.proofs.Lists.{levi, Levi}
 use Rattle.hex.proofs.Laws.{said, Hexy, hexy-cut, hexy-join}
 use Rattle.frame.specs.declared.Header.{Header}
 use Rattle.frame.specs.Frame.{SOI, CR, infoAt, Whole, Frames}
 use Rattle.frame.specs.Judge.{frame, lenid}
-use Rattle.frame.proofs.Judging.{whole-good, whole-count}
+use Rattle.frame.proofs.Judging.{chars-read, whole-good, whole-count}
 use Rattle.frame.proofs.Changes.{whole-one-place, whole-prefix, whole-suffix}
 use Rattle.frame.proofs.Steps.{length-chars}
 use Rattle.receiver.specs.declared.Receiver.the-variants.{Waiting}
 use Rattle.receiver.specs.Step.{After, step}
-use Rattle.receiver.specs.Stream.{after, toldAfter, toldAt, storeAt, Stretch, Silent}
+use Rattle.receiver.specs.Stream.{after, toldAfter, toldAt, storeAt, Stretch}
+use Rattle.receiver.specs.Damage.{lost, doubled}
 use Rattle.receiver.proofs.Receive.{Closes, heard, stands, after-join}
 
 -- ---- hex characters, and characters that are not
 
-not-hex : (s z : List ℕ) (r : ℕ) (d : List ℕ) → Hexy s → 16 ≤ said r → s ≡ z ++ r ∷ d → ⊥
+pub not-hex : (s z : List ℕ) (r : ℕ) (d : List ℕ) → Hexy s → 16 ≤ said r → s ≡ z ++ r ∷ d → ⊥
 not-hex s z r d h o e = omega (arith, hexy-cut z (r ∷ d) (subst Hexy e h) .1 .0)
 
-cr-odd : 16 ≤ said CR
+pub cr-odd : 16 ≤ said CR
 unfolding said
 cr-odd = omega arith
 
@@ -57,23 +58,26 @@ since p x q d h e = go (levi p (SOI ∷ x) q (SOI ∷ d) e)
     go (inl (a ∷ z, u, v)) = inr (z, tail-eq-of-cons-eq v)
     go (inr (w, z, u, v)) = absurd (not-hex d z SOI x h soi-odd (tail-eq-of-cons-eq v))
 
-hexy-frame : (h : Header) (n : ℕ) (c : List ℕ) → Frames h n c → Hexy c
+pub hexy-frame : (h : Header) (n : ℕ) (c : List ℕ) → Frames h n c → Hexy c
 hexy-frame h n c f = whole-good c (h, f .0, f .1) .hexy
 
 -- ---- exactly the stretches that are whole encodings
 
-in-range : (s : List ℕ) (j : ℕ) → getD s j 0 ≡ CR → j < length s
+pub in-range : (s : List ℕ) (j : ℕ) → getD s j 0 ≡ CR → j < length s
 in-range s j e =
     elim (decLt j (length s)) [
       | yes h ↦ h
       | no h ↦ let l : length s ≤ j = omega arith in absurd (omega (arith, List·getD-eq-default s 0 l))
     ]
 
-cut : (s : List ℕ) (i j : ℕ) (h : Header) (n : ℕ) → Stretch s i j h n → take j s ≡ take i (take j s) ++ SOI ∷ slice (suc i) j s
-cut s i j h n f =
-    let l = length-take-le j s (omega (arith, in-range s j (f .closes))) in
-    let x : getD (take j s) i 0 ≡ SOI = getD-take j s i 0 (f .order) ∙ f .opens in
-    split-at (take j s) i 0 (omega (arith, f .order, l)) ∙ ap (λ (b : ℕ). take i (take j s) ++ b ∷ slice (suc i) j s) x
+-- what stands before place k, from an SOI at i on
+pub cut : (s : List ℕ) (i k : ℕ) → i < k → k ≤ length s → getD s i 0 ≡ SOI → take k s ≡ take i s ++ SOI ∷ slice (suc i) k s
+cut s i k h l e =
+    let x : getD (take k s) i 0 ≡ SOI = getD-take k s i 0 h ∙ e in
+    split-at (take k s) i 0 (omega (arith, length-take-le k s l)) ∙ (λ t. take-take i k s (omega arith) t ++ x t ∷ slice (suc i) k s)
+
+pub cut-stretch : (s : List ℕ) (i j : ℕ) (h : Header) (n : ℕ) → Stretch s i j h n → take j s ≡ take i s ++ SOI ∷ slice (suc i) j s
+cut-stretch s i j h n f = cut s i j (f .order) (omega (arith, in-range s j (f .closes))) (f .opens)
 
 -- an SOI and characters before a CR are a stretch
 stretch : (s : List ℕ) (j : ℕ) (h : Header) (n : ℕ) (r : Closes (take j s) (getD s j 0) h n) → Stretch s (length (r .1)) j h n × (slice (suc (length (r .1))) j s ≡ r .2)
@@ -103,12 +107,12 @@ exactly store s j h n room = (there, back)
     there e = let r = heard store (take j s) (getD s j 0) h n room .0 e in (length (r .1), stretch s j h n r .0)
 
     back : (i : ℕ) × Stretch s i j h n → toldAfter store (take j s) (getD s j 0) ≡ frame h n
-    back (i, f) = heard store (take j s) (getD s j 0) h n room .1 (f .closes, take i (take j s), slice (suc i) j s, cut s i j h n f, f .frame)
+    back (i, f) = heard store (take j s) (getD s j 0) h n room .1 (f .closes, take i s, slice (suc i) j s, cut-stretch s i j h n f, f .frame)
 
 -- the SOI of a frame's CR is one
 pub one-soi : (s : List ℕ) (i i′ j : ℕ) (h h′ : Header) (n n′ : ℕ) → Stretch s i j h n → Stretch s i′ j h′ n′ → i ≡ i′
 one-soi s i i′ j h h′ n n′ f f′ =
-    go (since (take i (take j s)) c (take i′ (take j s)) c′ (hexy-frame h′ n′ c′ (f′ .frame)) (sym (cut s i j h n f) ∙ cut s i′ j h′ n′ f′))
+    go (since (take i s) c (take i′ s) c′ (hexy-frame h′ n′ c′ (f′ .frame)) (sym (cut-stretch s i j h n f) ∙ cut-stretch s i′ j h′ n′ f′))
   where
     c : List ℕ
     c = slice (suc i) j s
@@ -133,20 +137,24 @@ info-front s c n e h =
     ∙ ap (take n) (drop-append-le 12 c d (omega arith))
     ∙ take-append-le n (drop 12 c) d (omega (arith, length-drop 12 c))
 
+-- the store after a byte is that of the step over it
+pub store-then : (store s : List ℕ) (j : ℕ) → j < length s
+    → storeAt store s j ≡ step (after Waiting store (take j s) .next) (after Waiting store (take j s) .store) (getD s j 0) .store
+unfolding storeAt after
+store-then store s j h =
+    ap (λ (x : List ℕ). after Waiting store x .store) (take-suc s j 0 h) ∙ ap (λ (a : After). a .store) (after-join (take j s) (getD s j 0 ∷ []) Waiting store)
+
 -- when a frame is told, its INFO characters stand in the store at places 12 to 11 + LENID
 pub info-in-store : (store s : List ℕ) (i j : ℕ) (h : Header) (n : ℕ) → 4110 ≤ length store → Stretch s i j h n
     → infoAt n (storeAt store s j) ≡ infoAt n (slice (suc i) j s)
-unfolding storeAt after toldAt
+unfolding toldAt
 info-in-store store s i j h n room f =
     let r = stands store (take j s) (getD s j 0) h n room (exactly store s j h n room .1 (i, f)) in
     let k = stretch s j h n (r .0) in
     let one : length (r .0 .1) ≡ i = one-soi s (length (r .0 .1)) i j h h n n (k .0) f in
     let c : r .0 .2 ≡ slice (suc i) j s = sym (k .1) ∙ ap (λ (x : ℕ). slice (suc x) j s) one in
     let w = whole-count (r .0 .2) (h, r .0 .4 .0, r .0 .4 .1) in
-    let step-store : storeAt store s j ≡ step (after Waiting store (take j s) .next) (after Waiting store (take j s) .store) (getD s j 0) .store =
-    ap (λ (x : List ℕ). after Waiting store x .store) (take-suc s j 0 (in-range s j (f .closes)))
-    ∙ ap (λ (a : After). a .store) (after-join (take j s) (getD s j 0 ∷ []) Waiting store) in
-    ap (infoAt n) step-store
+    ap (infoAt n) (store-then store s j (in-range s j (f .closes)))
     ∙ info-front (step (after Waiting store (take j s) .next) (after Waiting store (take j s) .store) (getD s j 0) .store) (r .0 .2) n (r .1) (lenid-room (r .0 .2) h n (r .0 .4))
     ∙ ap (infoAt n) c
   where
@@ -181,25 +189,63 @@ before-in w post m h e =
       | no l ↦ inl (take-at w (CR ∷ post) m (omega arith))
     ]
 
-module _ (store pre w post : List ℕ) (room : 4110 ≤ length store) (none : (x d : List ℕ) → Before w x → Since x d → Whole d → ⊥) where
-  silent-at : (k : ℕ) (h : Header) (n : ℕ) → k ≤ suc (length w) → toldAt store (pre ++ SOI ∷ (w ++ CR ∷ post)) (length pre + k) ≢ frame h n
-  unfolding toldAt
-  silent-at zero h n l e =
-      let s = pre ++ SOI ∷ (w ++ CR ∷ post) in
-      let r = heard store (take (length pre + 0) s) (getD s (length pre + 0) 0) h n room .0 e in
-      omega (arith, r .0, getD-append-add pre (SOI ∷ (w ++ CR ∷ post)) 0 0)
-  silent-at (suc m) h n l e =
-      let t = w ++ CR ∷ post in
-      let r = heard store (take (length pre + suc m) (pre ++ SOI ∷ t)) (getD (pre ++ SOI ∷ t) (length pre + suc m) 0) h n room .0 e in
-      none (take m t) (r .2)
-      (before-in w post m (omega arith) (sym (getD-append-add pre (SOI ∷ t) (suc m) 0) ∙ r .0))
-      (since pre (take m t) (r .1) (r .2) (hexy-frame h n (r .2) (r .4)) (sym (take-append-add pre (SOI ∷ t) (suc m)) ∙ r .3))
-      (h, r .4 .0, r .4 .1)
+module _ (pre w post : List ℕ) (none : (x d : List ℕ) → Before w x → Since x d → Whole d → ⊥) where
+  stream : List ℕ
+  stream = pre ++ SOI ∷ (w ++ CR ∷ post)
 
-  silent : Silent store pre w post
-  silent j h n a b e =
-      silent-at (j - length pre) h n (omega arith)
-      (subst (λ (k : ℕ). toldAt store (pre ++ SOI ∷ (w ++ CR ∷ post)) k ≡ frame h n) (omega arith) e)
+  last : ℕ
+  last = length pre + suc (length w)
+
+  -- no whole encoding ends in it
+  none-ends : (i m : ℕ) (h : Header) (n : ℕ) → m ≤ suc (length w) → Stretch stream i (length pre + m) h n → ⊥
+  unfolding stream
+  none-ends i zero h n l f = omega (arith, f .closes, getD-append-add pre (SOI ∷ (w ++ CR ∷ post)) 0 0)
+  none-ends i (suc m) h n l f =
+      let t = w ++ CR ∷ post in
+      let c = slice (suc i) (length pre + suc m) stream in
+      none (take m t) c
+      (before-in w post m (omega arith) (sym (getD-append-add pre (SOI ∷ t) (suc m) 0) ∙ f .closes))
+      (since pre (take m t) (take i stream) c (hexy-frame h n c (f .frame)) (sym (take-append-add pre (SOI ∷ t) (suc m)) ∙ cut-stretch stream i (length pre + suc m) h n f))
+      (h, f .frame .0, f .frame .1)
+
+  -- none goes on behind it: its CR would be a character
+  none-over : (i j : ℕ) (h : Header) (n : ℕ) → i ≤ last → last < j → Stretch stream i j h n → ⊥
+  unfolding stream last
+  none-over i j h n a b f =
+      let c = slice (suc i) j stream in
+      let k = last - suc i in
+      let ends : getD stream last 0 ≡ CR = getD-append-add pre (SOI ∷ (w ++ CR ∷ post)) (suc (length w)) 0 ∙ getD-append-seam w CR post 0 in
+      elim (decLt i last) [
+        | no m ↦ let e : i ≡ last = omega arith in omega (arith, f .opens, ap (λ (x : ℕ). getD stream x 0) e, ends)
+        | yes m ↦
+            let g : getD c k 0 ≡ CR =
+            getD-drop (suc i) (take j stream) k 0
+            ∙ getD-take j stream (suc i + k) 0 (omega arith)
+            ∙ ap (λ (x : ℕ). getD stream x 0) (let e : suc i + k ≡ last = omega arith in e)
+            ∙ ends in
+            let t = length-slice (suc i) j stream (omega (arith, in-range stream j (f .closes))) in
+            not-hex c (take k c) CR (drop (suc k) c) (hexy-frame h n c (f .frame)) cr-odd
+            (split-at c k 0 (omega (arith, t)) ∙ ap (λ (x : ℕ). take k c ++ x ∷ drop (suc k) c) g)
+      ]
+
+  -- so each ends before it or begins behind it
+  apart : (i j : ℕ) (h : Header) (n : ℕ) → Stretch stream i j h n → (j < length pre) ⊎ (last < i)
+  unfolding last
+  apart i j h n f =
+      elim (decLt j (length pre)) [
+        | yes p ↦ inl p
+        | no p ↦
+            elim (decLt last i) [
+              | yes q ↦ inr q
+              | no q ↦
+                  elim (decLt last j) [
+                    | yes r ↦ absurd (none-over i j h n (omega arith) r f)
+                    | no r ↦
+                        let m = j - length pre in
+                        absurd (none-ends i m h n (omega arith) (subst (λ (x : ℕ). Stretch stream i x h n) (let e : j ≡ length pre + m = omega arith in e) f))
+                  ]
+            ]
+      ]
 
 -- ---- one character changed, lost or doubled, in a whole encoding x, a, y
 
@@ -225,34 +271,86 @@ module _ (x : List ℕ) (a : ℕ) (y : List ℕ) (w : Whole (x ++ a ∷ y)) wher
   odd-count v h o u d (inl e) (inr (z, f)) q = not-hex v z SOI d h soi-odd (sym e ∙ f)
   odd-count v h o u d (inr (t, e)) s q = not-hex v u CR t h cr-odd e
 
-  lost : (u d : List ℕ) → Before (x ++ y) u → Since u d → Whole d → ⊥
-  lost =
+  drops : (u d : List ℕ) → Before (x ++ y) u → Since u d → Whole d → ⊥
+  drops =
       let k = whole-count (x ++ a ∷ y) w in
       odd-count (x ++ y) (hexy-join x y (parts .0) (parts .1 .1)) (omega (arith, length-append x y, length-append x (a ∷ y)))
 
-  doubled : (u d : List ℕ) → Before (x ++ a ∷ a ∷ y) u → Since u d → Whole d → ⊥
-  doubled =
+  repeats : (u d : List ℕ) → Before (x ++ a ∷ a ∷ y) u → Since u d → Whole d → ⊥
+  repeats =
       let k = whole-count (x ++ a ∷ y) w in
       odd-count (x ++ a ∷ a ∷ y) (hexy-join x (a ∷ a ∷ y) (parts .0) (parts .1 .0, parts .1))
       (omega (arith, length-append x (a ∷ a ∷ y), length-append x (a ∷ y)))
 
--- ---- the same, by the place k of the character
+-- ---- the same at place k of a stream, between the SOI at i and the CR at j of a whole encoding
 
-module _ (store pre c post : List ℕ) (k : ℕ) (room : 4110 ≤ length store) (w : Whole c) (h : k < length c) where
-  w′ : Whole (take k c ++ getD c k 0 ∷ drop (suc k) c)
-  w′ = subst Whole (split-at c k 0 h) w
+module _ (s : List ℕ) (i j : ℕ) (h : Header) (n : ℕ) (f : Stretch s i j h n) (k : ℕ) (behind : i < k) (before : k < j) where
+  -- the characters before place k, and those behind it
+  x : List ℕ
+  x = slice (suc i) k s
 
-  -- one character becomes any other byte, and INFO has at most 936 characters where that byte is a tilde: no frame from any part of the stretch
-  pub one-changed : (b : ℕ) → (b ≡ SOI → lenid c ≤ 936) → b ≢ getD c k 0 → Silent store pre (set c k b) post
-  one-changed b short ne =
-      rw (set-split c k b h)
-      (silent store pre (take k c ++ b ∷ drop (suc k) c) post room
-      (changed (take k c) (getD c k 0) (drop (suc k) c) w′ b (λ e. subst (λ (x : List ℕ). lenid x ≤ 936) (split-at c k 0 h) (short e)) (λ e. ne (sym e))))
+  y : List ℕ
+  y = slice (suc k) j s
 
-  pub one-lost : Silent store pre (take k c ++ drop (suc k) c) post
-  one-lost = silent store pre (take k c ++ drop (suc k) c) post room (lost (take k c) (getD c k 0) (drop (suc k) c) w′)
+  long : j < length s
+  long = in-range s j (f .closes)
 
-  pub one-doubled : Silent store pre (take (suc k) c ++ drop k c) post
-  one-doubled =
-      rw (take-suc c k 0 h, drop-cons c k 0 h, append-snoc)
-      (silent store pre (take k c ++ getD c k 0 ∷ getD c k 0 ∷ drop (suc k) c) post room (doubled (take k c) (getD c k 0) (drop (suc k) c) w′))
+  parted : slice (suc i) j s ≡ x ++ getD s k 0 ∷ y
+  unfolding x y
+  parted =
+      let at : take j s ≡ take k s ++ getD s k 0 ∷ y =
+      split-at (take j s) k 0 (omega (arith, length-take-le j s (omega (arith, long)))) ∙ (λ t. take-take k j s (omega arith) t ++ getD-take j s k 0 before t ∷ y) in
+      ap (drop (suc i)) at ∙ drop-append-le (suc i) (take k s) (getD s k 0 ∷ y) (omega (arith, length-take-le k s (omega (arith, long))))
+
+  whole : Whole (x ++ getD s k 0 ∷ y)
+  whole = subst Whole parted (h, f .frame .0, f .frame .1)
+
+  lenid-is : lenid (x ++ getD s k 0 ∷ y) ≡ n
+  lenid-is = ap lenid (sym parted) ∙ chars-read h (f .frame .0) (slice (suc i) j s) (f .frame .1) .2 ∙ sym (f .frame .2)
+
+  -- with m in the place of the character
+  module _ (m : List ℕ) (none : (u d : List ℕ) → Before (x ++ (m ++ y)) u → Since u d → Whole d → ⊥) where
+    within : take k s ++ (m ++ drop (suc k) s) ≡ stream (take i s) (x ++ (m ++ y)) (drop (suc j) s) none
+    unfolding x y stream
+    within =
+        let post = drop (suc j) s in
+        let rest : drop (suc k) s ≡ y ++ CR ∷ post =
+        ap (drop (suc k)) (split-at s j 0 long)
+        ∙ drop-append-le (suc k) (take j s) (getD s j 0 ∷ post) (omega (arith, length-take-le j s (omega (arith, long))))
+        ∙ ap (λ (b : ℕ). y ++ b ∷ post) (f .closes) in
+        (λ t. cut s i k behind (omega (arith, long)) (f .opens) t ++ (m ++ rest t))
+        ∙ append-assoc (take i s) (SOI ∷ x) (m ++ (y ++ CR ∷ post))
+        ∙ ap (λ (z : List ℕ). take i s ++ SOI ∷ (x ++ z)) (sym (append-assoc m y (CR ∷ post)))
+        ∙ ap (λ (z : List ℕ). take i s ++ SOI ∷ z) (sym (append-assoc x (m ++ y) (CR ∷ post)))
+
+    damaged : (ends : ℕ) → suc ends ≡ j + length m → (l e : ℕ) (g : Header) (q : ℕ) → Stretch (take k s ++ (m ++ drop (suc k) s)) l e g q → (e < i) ⊎ (ends < l)
+    unfolding x y last
+    damaged ends at l e g q t =
+        let pre = length-take-le i s (omega (arith, long)) in
+        let size =
+        length-append x (m ++ y) ∙ (λ z. length-slice (suc i) k s (omega (arith, long)) z + (length-append m y ∙ ap (λ (w : ℕ). length m + w) (length-slice (suc k) j s (omega (arith, long)))) z) in
+        go (length (take i s)) (last (take i s) (x ++ (m ++ y)) (drop (suc j) s) none) pre (omega (arith, pre, size))
+        (apart (take i s) (x ++ (m ++ y)) (drop (suc j) s) none l e g q (subst (λ (z : List ℕ). Stretch z l e g q) within t))
+      where
+        go : (p r : ℕ) → p ≡ i → r ≡ ends → (e < p) ⊎ (r < l) → (e < i) ⊎ (ends < l)
+        go p r u v (inl z) = inl (omega arith)
+        go p r u v (inr z) = inr (omega arith)
+
+  -- it becomes any other byte, and INFO has at most 936 characters where that byte is a tilde: each whole encoding ends before the stretch or begins behind it
+  pub one-changed : (b : ℕ) → (b ≡ SOI → n ≤ 936) → b ≢ getD s k 0 → (l e : ℕ) (g : Header) (q : ℕ) → Stretch (set s k b) l e g q → (e < i) ⊎ (j < l)
+  one-changed b short ne l e g q t =
+      damaged (b ∷ []) (changed x (getD s k 0) y whole b (λ z. rw lenid-is (short z)) (λ z. ne (sym z))) j (omega arith) l e g q
+      (subst (λ (z : List ℕ). Stretch z l e g q) (set-split s k b (omega (arith, long))) t)
+
+  -- it is lost
+  pub one-lost : (l e : ℕ) (g : Header) (q : ℕ) → Stretch (lost k s) l e g q → (e < i) ⊎ (j - 1 < l)
+  one-lost = damaged [] (drops x (getD s k 0) y whole) (j - 1) (omega arith)
+
+  -- it is sent twice in a row
+  pub one-doubled : (l e : ℕ) (g : Header) (q : ℕ) → Stretch (doubled k s) l e g q → (e < i) ⊎ (suc j < l)
+  one-doubled l e g q t =
+      let a = getD s k 0 in
+      let rest = drop (suc k) s in
+      let same : doubled k s ≡ take k s ++ a ∷ a ∷ rest =
+      (λ z. take-suc s k 0 (omega (arith, long)) z ++ drop-cons s k 0 (omega (arith, long)) z) ∙ append-snoc (take k s) a (a ∷ rest) in
+      damaged (a ∷ a ∷ []) (repeats x a y whole) (suc j) (omega arith) l e g q (subst (λ (z : List ℕ). Stretch z l e g q) same t)

@@ -1,4 +1,8 @@
 pub mod Step
 pub mod Run
 pub mod Stream
+pub mod Calls
+pub mod Demand
+pub mod Damage
 pub mod Scan
+pub mod Pass

@@ -2,15 +2,13 @@
 use mathlib.Core.Path.{_≡_}
 use mathlib.Core.Bool.{Bool, true, false, cond}
 use mathlib.Core.List.{List, [], _∷_}
-use Prim.Native.Nat.{ℕ, _+_, _≤_}
-use lib.ListN.{length, take, drop}
+use Prim.Native.Nat.{ℕ, _+_}
+use lib.ListN.{length}
 use lib.Dec.{ltb}
-use Rattle.buffer.specs.Put.{Put}
 use Rattle.frame.specs.Judge.{Told, nothing, frame, refused}
 use Rattle.receiver.specs.declared.Receiver.{Receiver}
 use Rattle.receiver.specs.declared.Receiver.the-variants.{Waiting, Open}
 use Rattle.receiver.specs.declared.Ran.{Ran}
-use Rattle.receiver.specs.Scan.{isEnd, before}
 use Rattle.receiver.specs.Step.{After, beyond, step, paper}
 
 abbrev pub isNothing : Told → Bool
@@ -62,21 +60,3 @@ runOf answer store′ = record { next = answer .next; store = store′; told = p
 -- the contract of a run: its answer and the store then
 abbrev pub Runs : Receiver → List ℕ → List ℕ → Ran → List ℕ → Type 0
 Runs r store piece answer store′ = runOf answer store′ ≡ run r store piece
-
--- ---- how the bytes between events are passed many at a time
-
--- the receiver after k bytes that it only waits over, or only stores
-abbrev pub moved : Receiver → ℕ → Receiver
-moved Waiting k = Waiting
-moved (Open n) k = Open (n + k)
-
--- k bytes at the start of s were stored from place at on, none of them SOI or CR
-pub record Stored (store : List ℕ) (at : ℕ) (s : List ℕ) (k : ℕ) (store′ : List ℕ) : Type 0 where
-  pub few : k ≤ before isEnd s
-  pub put : Put store at (take k s) store′ (at + k)
-
--- k bytes at the start of a piece were passed, and stepping goes on from there as from the start
-pub record Passed (r : Receiver) (store piece : List ℕ) (k : ℕ) (store′ : List ℕ) : Type 0 where
-  pub few : k ≤ length piece
-  pub count : countOf (moved r k) ≤ 4110
-  pub same : stepping r store piece ≡ later k (stepping (moved r k) store′ (drop k piece))

@@ -1,4 +1,4 @@
--- Looking for SOI, and for SOI or CR, in a list.
+-- Nobody has to believe this page: words of the contracts of private functions, which look for SOI, or for SOI or CR, in a list.
 use mathlib.Core.Path.{_≡_}
 use mathlib.Core.Bool.{Bool, false, cond, _||_}
 use mathlib.Core.List.{List, [], _∷_}

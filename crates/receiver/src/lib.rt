@@ -8,7 +8,8 @@ ghost use Rattle.buffer.specs.Put.{Room};
 ghost use Rattle.frame.specs.Judge.{paper as paperJudged};
 ghost use Rattle.receiver.specs.Scan.{isSoi, isEnd, any, before, Clear};
 ghost use Rattle.receiver.specs.Step.{paper, beyond, Steps};
-ghost use Rattle.receiver.specs.Run.{isNothing, countOf, moved, Stored, Passed, Runs};
+ghost use Rattle.receiver.specs.Run.{isNothing, countOf, Runs};
+ghost use Rattle.receiver.specs.Pass.{moved, Stored, Passed};
 use frame::CR;
 use frame::Header;
 use frame::Judged;
@@ -167,12 +168,19 @@ fn plain(s: &[u8]) -> usize
     pass_plain(s, narrow, FEW)
 }
 
-fn event_of(judged: Judged) -> Event
-    ensures { λ r. ⌜ paper r ≡ paperJudged judged ⌝ }
+// What a CR gives: the characters were judged, then waiting.
+fn closed(judged: Judged) -> Stepped
+    ensures { λ r. ⌜ (r .next ≡ Receiver.Waiting) × (paper (r .event) ≡ paperJudged judged) ⌝ }
 {
     match judged {
-        Judged::Frame(header, lenid) => Event::Frame(header, lenid),
-        Judged::Refused(refusal) => Event::Refused(refusal),
+        Judged::Frame(header, lenid) => Stepped {
+            next: Receiver::Waiting,
+            event: Event::Frame(header, lenid),
+        },
+        Judged::Refused(refusal) => Stepped {
+            next: Receiver::Waiting,
+            event: Event::Refused(refusal),
+        },
     }
 }
 
@@ -218,8 +226,9 @@ fn open_step(store: &mut [u8], count: usize, byte: u8) -> Stepped
         if byte != CR {
             if count != MOST {
                 store[count] = byte;
+                let more = count + 1;
                 return Stepped {
-                    next: Receiver::Open(count + 1),
+                    next: Receiver::Open(more),
                     event: Event::Nothing,
                 };
             }
@@ -228,11 +237,7 @@ fn open_step(store: &mut [u8], count: usize, byte: u8) -> Stepped
                 event: Event::Refused(Refusal::TooLong),
             };
         }
-        let event = event_of(frame::judge(&store[..count]));
-        return Stepped {
-            next: Receiver::Waiting,
-            event,
-        };
+        return closed(frame::judge(&store[..count]));
     }
     Stepped {
         next: Receiver::Open(0),
@@ -292,6 +297,7 @@ impl Receiver {
         Receiver::Waiting
     }
 
+    // How many characters it holds.
     fn count(self) -> usize
         ensures { λ r. ⌜ r ≡ countOf self ⌝ }
     {

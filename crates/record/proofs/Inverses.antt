@@ -5,7 +5,7 @@ use Rattle.record.specs.Analog.{analog}
 use Rattle.record.specs.Alarm.{alarm}
 use Rattle.record.specs.Limits.{limits}
 use Rattle.record.specs.Texts.{serial, version, maker}
-use Rattle.record.specs.Infos.{analogInfo, alarmInfo, limitsInfo, serialInfo, versionInfo, analogGroup, alarmGroup}
+use Rattle.record.specs.Infos.{analogInfo, alarmInfo, limitsInfo, serialInfo, versionInfo, analogGroup, alarmGroup, makerInfo, emptyInfo}
 
 -- ---- records
 
@@ -23,6 +23,9 @@ serial-inverse = inverse serial
 
 pub version-inverse : Inverse version
 version-inverse = inverse version
+
+pub maker-inverse : Inverse maker
+maker-inverse = inverse maker
 
 -- ---- whole INFOs
 
@@ -47,5 +50,8 @@ analog-group-inverse = whole-inverse analogGroup
 pub alarm-group-inverse : WholeInverse alarmGroup
 alarm-group-inverse = whole-inverse alarmGroup
 
-pub maker-inverse : WholeInverse maker
-maker-inverse = whole-inverse maker
+pub maker-info-inverse : WholeInverse makerInfo
+maker-info-inverse = whole-inverse makerInfo
+
+pub empty-info-inverse : WholeInverse emptyInfo
+empty-info-inverse = whole-inverse emptyInfo

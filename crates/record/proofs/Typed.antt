@@ -27,7 +27,7 @@ use Rattle.record.specs.declared.Analog.{Analog}
 use Rattle.record.specs.declared.Alarm.{Alarm}
 use Rattle.record.specs.declared.Limits.{Limits}
 use Rattle.record.specs.declared.Module.{Module}
-use Rattle.record.specs.Alarm.{isCode, code}
+use Rattle.record.specs.Alarm.{isAlarmCode, code}
 use Rattle.record.specs.Limits.{limits}
 use Rattle.record.specs.Texts.{serial, version}
 use Rattle.record.proofs.Analog as A
@@ -93,7 +93,7 @@ signeds N xs vs g =
     record { long = l; front = λ n h. each-signed n xs (g .0) (omega arith) p }
 
 -- of the first n codes only the test is left to ask
-each-code : (n : ℕ) (xs : List ℕ) (us : List Val) → n ≤ length xs → shadow (each ℕ (u8 .own) xs us) → row-ok code n (take n xs) ≡ every isCode (take n xs)
+each-code : (n : ℕ) (xs : List ℕ) (us : List Val) → n ≤ length xs → shadow (each ℕ (u8 .own) xs us) → row-ok code n (take n xs) ≡ every isAlarmCode (take n xs)
 each-code zero xs us h p = refl
 each-code (suc n) [] us h p = absurd (not-suc-le-zero h)
 each-code (suc n) (x ∷ xs) [] h p = absurd p
@@ -101,7 +101,7 @@ each-code (suc n) (x ∷ xs) (u ∷ us) h p = rw (lt-ltb x 256 (p .0 .1), and-tr
 
 pub record Codes (N : ℕ) (xs : List ℕ) : Type 0 where
   pub long : length xs ≡ N
-  pub front : (n : ℕ) → n ≤ N → row-ok code n (take n xs) ≡ every isCode (take n xs)
+  pub front : (n : ℕ) → n ≤ N → row-ok code n (take n xs) ≡ every isAlarmCode (take n xs)
 
 codes-of : (N : ℕ) (xs : List ℕ) (vs : List Val) → Is (Array u8 N) (map (λ (x : ℕ). x) xs) vs → Codes N xs
 codes-of N xs vs g =

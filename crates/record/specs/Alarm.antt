@@ -1,4 +1,4 @@
--- 44H, alarm codes of a module (source 000, 3.5): the record without flag and Command.
+-- 44H, alarm codes of a module (V3.3, chapter 3.5; PROTOCOL 9.12): the record without flag and Command.
 use mathlib.Core.Path.{refl}
 use mathlib.Core.List.{List}
 use mathlib.Core.Bool.{Bool, _||_}
@@ -14,11 +14,11 @@ use Rattle.record.specs.declared.Alarm.{Alarm}
 use Rattle.record.specs.Zeros.{zeroByte}
 
 -- an alarm code is 00, 01, 02 or F0, else 20
-unfoldable pub isCode : ℕ → Bool
-isCode b = leb b 2 || eqb b 0xF0
+unfoldable pub isAlarmCode : ℕ → Bool
+isAlarmCode b = leb b 2 || eqb b 0xF0
 
 abbrev pub code : Codec ℕ
-code = tested isCode 20 byte
+code = tested isAlarmCode 20 byte
 
 -- a count, and that many codes
 unfoldable pub codes : ℕ → Codec (ℕ × List ℕ)

@@ -1,4 +1,4 @@
--- 42H, analog values of a module (source 000, 3.3): the record without flag and Command.
+-- 42H, analog values of a module (V3.3, chapter 3.3; PROTOCOL 9.5): the record without flag and Command.
 use mathlib.Core.Path.{refl}
 use mathlib.Core.List.{List}
 use Prim.Native.Nat.{ℕ}

@@ -1,5 +1,7 @@
--- Whole INFOs of replies with a Command byte: for one module Command is its ADR, for the group FFH; any other is refusal 21.
-use mathlib.Core.List.{List}
+-- Whole INFOs of replies: with a Command byte, which for one module is its ADR, for the group FFH (any other is refusal 21), and those without one.
+use mathlib.Core.Path.{refl}
+use mathlib.Core.Bool.{true}
+use mathlib.Core.List.{List, []}
 use Prim.Native.Nat.{ℕ, _<_}
 use native.Mathlib.Omega.{arith}
 use lib.ListN.{length}
@@ -7,7 +9,7 @@ use lib.Dec.{T, eqb}
 use Rattle.codec.specs.Codec.{Codec, byte}
 use Rattle.codec.specs.Both.{_then_}
 use Rattle.codec.specs.Tested.{tested}
-use Rattle.codec.specs.Whole.{Whole, ended, lead}
+use Rattle.codec.specs.Whole.{Whole, ended, lead, at-end, at-end-inv}
 use Rattle.codec.specs.Many.{many}
 use Rattle.record.specs.declared.Analog.{Analog}
 use Rattle.record.specs.declared.Alarm.{Alarm}
@@ -15,7 +17,7 @@ use Rattle.record.specs.declared.Limits.{Limits}
 use Rattle.record.specs.Analog.{analog, measured}
 use Rattle.record.specs.Alarm.{alarm, codes}
 use Rattle.record.specs.Limits.{limits}
-use Rattle.record.specs.Texts.{serial, version}
+use Rattle.record.specs.Texts.{serial, version, maker}
 
 abbrev pub command : ℕ → Codec ℕ
 command asked = tested (λ c. eqb c asked) 21 byte
@@ -56,3 +58,20 @@ analogGroup = lead (byte then command 0xFF) (λ x. many analog some-analog 12)
 
 unfoldable pub alarmGroup : Whole (Front × List Alarm)
 alarmGroup = lead (byte then command 0xFF) (λ x. many alarm some-alarm 12)
+
+-- ---- 51H: its 32 bytes
+
+unfoldable pub makerInfo : Whole (List ℕ)
+makerInfo = ended maker
+
+-- ---- 4FH and 95H: no byte
+
+unfoldable pub emptyInfo : Whole (Unit {0})
+emptyInfo = record {
+  ok = λ x. true;
+  put = λ x. [];
+  get = at-end tt;
+  small = λ x h. tt;
+  there = λ x h. refl;
+  back = λ s x h e. (at-end-inv tt x s e .0, tt);
+}

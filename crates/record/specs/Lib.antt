@@ -7,3 +7,4 @@ pub mod Alarm
 pub mod Limits
 pub mod Texts
 pub mod Infos
+pub mod Nothing

@@ -1,4 +1,4 @@
--- 92H, charge and discharge management of a module (source 000, 3.6): the record without Command.
+-- 92H, charge and discharge management of a module (V3.3, chapter 3.6; PROTOCOL 9.17): the record without Command.
 use mathlib.Core.Path.{refl}
 use Prim.Native.Nat.{ℕ}
 use lib.IntN.{ℤ}

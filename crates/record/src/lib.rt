@@ -5,7 +5,8 @@ ghost use mir.Syntax.{w16};
 ghost use mir.Val.{toZ, ofZ};
 ghost use Rattle.record.specs.Meanings.{milliampsOf, tenthsCelsiusOf};
 ghost use Rattle.record.specs.Address.{isAddress};
-ghost use Rattle.record.specs.Alarm.{isCode};
+ghost use Rattle.record.specs.Alarm.{isAlarmCode};
+ghost use Rattle.record.specs.Nothing.{noAnalog, noAlarm, noLimits};
 
 // 42H: cells in mV, temperatures as raw words, current in 100 mA (charge positive), module voltage in mV, remaining and total in mAh.
 #[repr(C)]
@@ -57,6 +58,58 @@ pub struct Module {
     pub version: [u8; 5],
 }
 
+// ---- records of zeros
+
+pub fn zero_analog() -> Analog
+    ensures { λ r. ⌜ r ≡ noAnalog ⌝ }
+{
+    let cells = [0i16; 16];
+    let temperatures = [0i16; 8];
+    Analog {
+        cell_count: 0,
+        cells: cells,
+        temperature_count: 0,
+        temperatures: temperatures,
+        current: 0,
+        voltage: 0,
+        remaining: 0,
+        total: 0,
+        cycles: 0,
+    }
+}
+
+pub fn zero_alarm() -> Alarm
+    ensures { λ r. ⌜ r ≡ noAlarm ⌝ }
+{
+    let cells = [0u8; 16];
+    let temperatures = [0u8; 8];
+    let status = [0u8; 5];
+    Alarm {
+        cell_count: 0,
+        cells: cells,
+        temperature_count: 0,
+        temperatures: temperatures,
+        charge_current: 0,
+        module_voltage: 0,
+        discharge_current: 0,
+        status: status,
+    }
+}
+
+pub fn zero_limits() -> Limits
+    ensures { λ r. ⌜ r ≡ noLimits ⌝ }
+{
+    Limits {
+        charge_voltage: 0,
+        discharge_voltage: 0,
+        charge_current: 0,
+        discharge_current: 0,
+        status: 0,
+    }
+}
+
+// ---- what numbers mean
+
 // A word as a signed number.
 pub fn signed(word: u16) -> i16
     ensures { λ r. ⌜ r ≡ toZ w16 word ⌝ }
@@ -106,8 +159,8 @@ pub fn is_address(adr: u8) -> bool
 }
 
 // Whether a byte is an alarm code.
-pub fn is_code(code: u8) -> bool
-    ensures { λ r. ⌜ r ≡ isCode code ⌝ }
+pub fn is_alarm_code(code: u8) -> bool
+    ensures { λ r. ⌜ r ≡ isAlarmCode code ⌝ }
 {
     (code <= 2) | (code == 240)
 }

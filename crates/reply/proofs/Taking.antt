@@ -20,14 +20,14 @@ use Rattle.record.specs.declared.Alarm.{Alarm}
 use Rattle.record.specs.Analog.{analog}
 use Rattle.record.specs.Alarm.{alarm}
 use Rattle.record.specs.Infos.{Front, command, some-analog, some-alarm, analogGroup, alarmGroup}
-use Rattle.infos.specs.declared.Taken.{Taken}
-use Rattle.infos.specs.Nothing.{noMaker}
-use Rattle.infos.specs.Took.{paper, taken}
-use Rattle.infos.proofs.Answers.{when-taken, when-refused}
-use Rattle.infos.specs.Groups.{noPlaces, grouped}
+use Rattle.parts.specs.declared.front.Taken.{Taken}
+use Rattle.record.specs.Nothing.{noMaker}
+use Rattle.parts.specs.Took.{paper, taken}
+use Rattle.parts.proofs.front.Answers.{when-taken, when-refused}
+use Rattle.parts.specs.Groups.{noPlaces, grouped}
 use Rattle.table.specs.declared.Table.{Table}
 use Rattle.table.specs.Table.{members, countOn}
-use Rattle.changes.specs.Changes.{Kept, dealt, TableIs}
+use Rattle.table.specs.Changes.{Kept, dealt, TableIs}
 use Rattle.reply.specs.declared.Outcome.the-variants.{Read, Refused}
 use Rattle.reply.specs.Read.{forAll, Left, leaves, read, refused, given, Reads}
 
@@ -85,7 +85,7 @@ pub alarms-few : (s : List ℕ) (x : Front × List Alarm) → alarmGroup .get s 
 unfolding alarmGroup
 alarms-few s x e = group-few (byte then command 0xFF) alarm some-alarm 12 s x e
 
-take-pad : {A : Type 0} (z : A) (N : ℕ) (l : List A) → length l ≤ N → take (length l) (padTo z N l) ≡ l
+pub take-pad : {A : Type 0} (z : A) (N : ℕ) (l : List A) → length l ≤ N → take (length l) (padTo z N l) ≡ l
 take-pad z zero [] h = refl
 take-pad z zero (a ∷ l) h = absurd (omega arith)
 take-pad z (suc N) [] h = refl

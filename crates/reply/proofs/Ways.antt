@@ -12,15 +12,15 @@ use Rattle.refusal.specs.declared.Refusal.{Refusal}
 use Rattle.refusal.specs.declared.Refusal.the-variants.{TooLong, SoiInside, TooShort, NotHex, LchksumDiffers, LenidOdd, CountDiffers, ChksumDiffers, AdrDiffers, Cid1Differs, CodeUnknown, InfoBesideCode, CountOutOfRange, InfoEnds, BytesLeftOver, ItemsUnknown, CapacitiesBreakRule, AlarmCodeUnknown, CommandDiffers, RecordsDiffer, AdrNotInTable, TableBreaksRule, BufferTooShort, NotEncodable, NotServed, ReceiverBeyondStore}
 use Rattle.refusal.specs.Number.{number}
 use Rattle.hex.specs.Hex.{unhexes}
-use Rattle.frame.specs.Frame.{infoAt}
+use Rattle.frame.specs.Frame.{infoAt, Frames}
 use Rattle.frame.specs.Judge.{Told, frame, refused as judgedRefused, header, lenid, judge, need}
 use Rattle.frame.proofs.Judging.{judge-accepts, chars-read}
 use Rattle.record.specs.declared.Module.{Module}
-use Rattle.infos.specs.Nothing.{noMaker}
+use Rattle.record.specs.Nothing.{noMaker}
 use Rattle.table.specs.Table.{hasMember}
 use Rattle.command.specs.Heard.{Words, words}
-use Rattle.gate.specs.declared.Question.{Question}
-use Rattle.gate.specs.Gate.{gate, judgedFirst, asks, frameGate}
+use Rattle.reply.specs.declared.gate.Question.{Question}
+use Rattle.reply.specs.Gate.{gate, judgedFirst, asks, frameGate}
 use Rattle.reply.specs.Read.{leaves, read, refused, byCode, readReply}
 
 -- no refusal has number 0
@@ -110,10 +110,13 @@ lenid-is : (c : List ℕ) → 16 ≤ length c → words c .lenid ≡ lenid c
 unfolding words
 lenid-is c h = rw (le-ltb (length c) 16 h)
 
+-- what passes the gate is a frame
+pub gate-passes : (c : List ℕ) (w : Words) → w ≡ words c → (ms : List Module) (q : Question) → gate ms q w ≡ 0 → Frames (header c) (lenid c) c
+gate-passes c w is ms q g = judge-accepts c (header c) (lenid c) .0 (judged c (λ k e. gate-frame ms q w g k (ap (λ (x : Words). x .told) is ∙ told-is c ∙ e)))
+
 pub info-there : (c : List ℕ) (w : Words) → w ≡ words c → (ms : List Module) (q : Question) → gate ms q w ≡ 0 → (12 + w .lenid ≤ length c) × (w .lenid ≤ 4094)
 info-there c w is ms q g =
-    let j = judged c (λ k e. gate-frame ms q w g k (ap (λ (x : Words). x .told) is ∙ told-is c ∙ e)) in
-    let f = judge-accepts c (header c) (lenid c) .0 j in
+    let f = gate-passes c w is ms q g in
     let r = chars-read (header c) (f .0) c (f .1) in
     let n : w .lenid ≡ lenid c = ap (λ (x : Words). x .lenid) is ∙ lenid-is c (r .0 .long) in
     (omega (arith, r .0 .count), omega (arith, r .0 .count, r .0 .few))

@@ -10,21 +10,21 @@ use Rattle.hex.specs.Hex.{unhexes}
 use Rattle.frame.specs.Frame.{infoAt}
 use Rattle.codec.specs.Whole.{Told, told, refuse, mapped}
 use Rattle.record.specs.declared.Module.{Module}
-use Rattle.record.specs.Texts.{maker}
 use Rattle.record.specs.Infos.{analogInfo, alarmInfo, limitsInfo, serialInfo, versionInfo, analogGroup, alarmGroup}
-use Rattle.infos.specs.Nothing.{nothing, noMaker}
+use Rattle.record.specs.Infos.{makerInfo, emptyInfo}
+use Rattle.record.specs.Nothing.{noMaker}
 use Rattle.table.specs.declared.Table.{Table}
 use Rattle.table.specs.Table.{members, countOn}
-use Rattle.changes.specs.Changes.{Kept, replaced, dealt, withAnalog, withAlarm, withLimits, withSerial, withVersion}
+use Rattle.table.specs.Changes.{Kept, replaced, dealt, withAnalog, withAlarm, withLimits, withSerial, withVersion}
 use Rattle.command.specs.declared.Kind.{Kind}
 use Rattle.command.specs.declared.Kind.the-variants.{Analog, AnalogGroup, Alarm, AlarmGroup, Protocol, Maker, Limits, Serial, TurnOff, Version, Unserved}
 use Rattle.command.specs.Command.{formOf}
 use Rattle.command.specs.Heard.{Words, words}
-use Rattle.gate.specs.declared.Question.{Question}
+use Rattle.reply.specs.declared.gate.Question.{Question}
 use Rattle.reply.specs.declared.Outcome.{Outcome}
 use Rattle.reply.specs.declared.Outcome.the-variants.{Read, Refused}
 use Rattle.reply.specs.declared.Reading.{Reading}
-use Rattle.gate.specs.Gate.{gate}
+use Rattle.reply.specs.Gate.{gate}
 
 -- the flag, the 32 bytes of 51H (zeros for every other command), and the records then
 abbrev pub Data : Type 0
@@ -37,7 +37,7 @@ forAll f ms (refuse k) = refuse k
 
 -- 4FH and 95H carry nothing
 abbrev pub tookNothing : List Module → List ℕ → Told Data
-tookNothing ms info = mapped (nothing .get info) (λ x. (0, (noMaker, ms)))
+tookNothing ms info = mapped (emptyInfo .get info) (λ x. (0, (noMaker, ms)))
 
 unfoldable pub took : Kind → List Module → ℕ → List ℕ → Told Data
 took Analog ms adr info = mapped (analogInfo adr .get info) (λ x. (x .0 .0, (noMaker, replaced adr (withAnalog (x .1)) ms)))
@@ -45,7 +45,7 @@ took AnalogGroup ms adr info = forAll withAnalog ms (analogGroup .get info)
 took Alarm ms adr info = mapped (alarmInfo adr .get info) (λ x. (x .0 .0, (noMaker, replaced adr (withAlarm (x .1)) ms)))
 took AlarmGroup ms adr info = forAll withAlarm ms (alarmGroup .get info)
 took Protocol ms adr info = tookNothing ms info
-took Maker ms adr info = mapped (maker .get info) (λ x. (0, (x, ms)))
+took Maker ms adr info = mapped (makerInfo .get info) (λ x. (0, (x, ms)))
 took Limits ms adr info = mapped (limitsInfo adr .get info) (λ x. (0, (noMaker, replaced adr (withLimits (x .1)) ms)))
 took Serial ms adr info = mapped (serialInfo adr .get info) (λ x. (0, (noMaker, replaced adr (withSerial (x .1)) ms)))
 took TurnOff ms adr info = tookNothing ms info

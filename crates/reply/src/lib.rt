@@ -1,19 +1,21 @@
 // The reply reader: what a stretch that answers a question says of the table's records.
 
+pub mod gate;
+
 ghost use mathlib.Core.Path.{_≡_};
 ghost use Rattle.table.specs.Table.{members};
 ghost use Rattle.command.specs.Heard.{wordsOf, words};
 ghost use Rattle.hex.specs.Hex.{unhexes};
 ghost use Rattle.table.specs.Rule.{keeps};
-ghost use Rattle.gate.specs.Gate.{gate};
+ghost use Rattle.reply.specs.Gate.{gate};
 ghost use Rattle.reply.specs.Read.{took, tookNothing, given, byCode, readReply, Reads};
-ghost use Rattle.infos.specs.Nothing.{noMaker};
+ghost use Rattle.record.specs.Nothing.{noMaker};
 ghost use Rattle.frame.specs.Frame.{infoAt};
+use crate::gate::Entry;
+use crate::gate::Question;
 use command::Heard;
 use command::Kind;
-use gate::Entry;
-use gate::Question;
-use infos::Taken;
+use parts::front::Taken;
 use refusal::Refusal;
 use table::Table;
 
@@ -55,13 +57,13 @@ fn was_read(table: Table, ver: u8, code: u8, flag: u8) -> Reading
 fn read_analog(table: Table, adr: u8, ver: u8, info: &[u8]) -> Reading
     ensures { λ r. ⌜ Reads (given ver (members table) (took Kind.Analog (members table) adr (unhexes (now (info .entry))))) table r ⌝ }
 {
-    let found = analog_infos::take_analog(info, adr);
+    let found = analog::info::take_analog(info, adr);
     let taken = found.taken;
     match taken {
         Taken::Refused(why) => not_read(table, why),
         Taken::Taken(flag) => {
             let analog = found.analog;
-            let next = changes::with_analog(table, adr, analog);
+            let next = table::changes::with_analog(table, adr, analog);
             was_read(next, ver, 0, flag)
         }
     }
@@ -70,13 +72,13 @@ fn read_analog(table: Table, adr: u8, ver: u8, info: &[u8]) -> Reading
 fn read_alarm(table: Table, adr: u8, ver: u8, info: &[u8]) -> Reading
     ensures { λ r. ⌜ Reads (given ver (members table) (took Kind.Alarm (members table) adr (unhexes (now (info .entry))))) table r ⌝ }
 {
-    let found = alarm_infos::take_alarm(info, adr);
+    let found = alarm::info::take_alarm(info, adr);
     let taken = found.taken;
     match taken {
         Taken::Refused(why) => not_read(table, why),
         Taken::Taken(flag) => {
             let alarm = found.alarm;
-            let next = changes::with_alarm(table, adr, alarm);
+            let next = table::changes::with_alarm(table, adr, alarm);
             was_read(next, ver, 0, flag)
         }
     }
@@ -85,13 +87,13 @@ fn read_alarm(table: Table, adr: u8, ver: u8, info: &[u8]) -> Reading
 fn read_limits(table: Table, adr: u8, ver: u8, info: &[u8]) -> Reading
     ensures { λ r. ⌜ Reads (given ver (members table) (took Kind.Limits (members table) adr (unhexes (now (info .entry))))) table r ⌝ }
 {
-    let found = plain_infos::take_limits(info, adr);
+    let found = fixed::info::take_limits(info, adr);
     let taken = found.taken;
     match taken {
         Taken::Refused(why) => not_read(table, why),
         Taken::Taken(flag) => {
             let limits = found.limits;
-            let next = changes::with_limits(table, adr, limits);
+            let next = table::changes::with_limits(table, adr, limits);
             was_read(next, ver, 0, flag)
         }
     }
@@ -100,13 +102,13 @@ fn read_limits(table: Table, adr: u8, ver: u8, info: &[u8]) -> Reading
 fn read_serial(table: Table, adr: u8, ver: u8, info: &[u8]) -> Reading
     ensures { λ r. ⌜ Reads (given ver (members table) (took Kind.Serial (members table) adr (unhexes (now (info .entry))))) table r ⌝ }
 {
-    let found = plain_infos::take_serial(info, adr);
+    let found = fixed::info::take_serial(info, adr);
     let taken = found.taken;
     match taken {
         Taken::Refused(why) => not_read(table, why),
         Taken::Taken(flag) => {
             let serial = found.serial;
-            let next = changes::with_serial(table, adr, serial);
+            let next = table::changes::with_serial(table, adr, serial);
             was_read(next, ver, 0, flag)
         }
     }
@@ -115,13 +117,13 @@ fn read_serial(table: Table, adr: u8, ver: u8, info: &[u8]) -> Reading
 fn read_version(table: Table, adr: u8, ver: u8, info: &[u8]) -> Reading
     ensures { λ r. ⌜ Reads (given ver (members table) (took Kind.Version (members table) adr (unhexes (now (info .entry))))) table r ⌝ }
 {
-    let found = plain_infos::take_version(info, adr);
+    let found = fixed::info::take_version(info, adr);
     let taken = found.taken;
     match taken {
         Taken::Refused(why) => not_read(table, why),
         Taken::Taken(flag) => {
             let version = found.version;
-            let next = changes::with_version(table, adr, version);
+            let next = table::changes::with_version(table, adr, version);
             was_read(next, ver, 0, flag)
         }
     }
@@ -131,7 +133,7 @@ fn read_version(table: Table, adr: u8, ver: u8, info: &[u8]) -> Reading
 fn read_analog_group(table: Table, adr: u8, ver: u8, info: &[u8]) -> Reading
     ensures { λ r. ⌜ Reads (given ver (members table) (took Kind.AnalogGroup (members table) adr (unhexes (now (info .entry))))) table r ⌝ }
 {
-    let found = analog_infos::take_analog_group(info);
+    let found = analog::info::take_analog_group(info);
     let taken = found.taken;
     match taken {
         Taken::Refused(why) => not_read(table, why),
@@ -140,7 +142,7 @@ fn read_analog_group(table: Table, adr: u8, ver: u8, info: &[u8]) -> Reading
                 return not_read(table, Refusal::RecordsDiffer);
             }
             let analogs = found.analogs;
-            let next = changes::deal_analogs(table, found.count, analogs);
+            let next = table::changes::deal_analogs(table, found.count, analogs);
             was_read(next, ver, 0, flag)
         }
     }
@@ -150,7 +152,7 @@ fn read_analog_group(table: Table, adr: u8, ver: u8, info: &[u8]) -> Reading
 fn read_alarm_group(table: Table, adr: u8, ver: u8, info: &[u8]) -> Reading
     ensures { λ r. ⌜ Reads (given ver (members table) (took Kind.AlarmGroup (members table) adr (unhexes (now (info .entry))))) table r ⌝ }
 {
-    let found = alarm_infos::take_alarm_group(info);
+    let found = alarm::info::take_alarm_group(info);
     let taken = found.taken;
     match taken {
         Taken::Refused(why) => not_read(table, why),
@@ -159,7 +161,7 @@ fn read_alarm_group(table: Table, adr: u8, ver: u8, info: &[u8]) -> Reading
                 return not_read(table, Refusal::RecordsDiffer);
             }
             let alarms = found.alarms;
-            let next = changes::deal_alarms(table, found.count, alarms);
+            let next = table::changes::deal_alarms(table, found.count, alarms);
             was_read(next, ver, 0, flag)
         }
     }
@@ -169,7 +171,7 @@ fn read_alarm_group(table: Table, adr: u8, ver: u8, info: &[u8]) -> Reading
 fn read_nothing(table: Table, ver: u8, info: &[u8]) -> Reading
     ensures { λ r. ⌜ Reads (given ver (members table) (tookNothing (members table) (unhexes (now (info .entry))))) table r ⌝ }
 {
-    let taken = infos::take_nothing(info);
+    let taken = fixed::info::take_nothing(info);
     match taken {
         Taken::Refused(why) => not_read(table, why),
         Taken::Taken(flag) => was_read(table, ver, 0, flag),
@@ -179,7 +181,7 @@ fn read_nothing(table: Table, ver: u8, info: &[u8]) -> Reading
 fn read_maker(table: Table, adr: u8, ver: u8, info: &[u8]) -> Reading
     ensures { λ r. ⌜ Reads (given ver (members table) (took Kind.Maker (members table) adr (unhexes (now (info .entry))))) table r ⌝ }
 {
-    let found = plain_infos::take_maker(info);
+    let found = fixed::info::take_maker(info);
     let taken = found.taken;
     match taken {
         Taken::Refused(why) => not_read(table, why),
@@ -232,11 +234,11 @@ fn read_open(table: Table, question: Question, heard: Heard, stretch: &[u8]) -> 
 pub fn read(table: Table, question: Question, stretch: &[u8]) -> Reading
     ensures { λ r. ⌜ Reads (readReply (keeps table) (members table) question (now (stretch .entry))) table r ⌝ }
 {
-    if !rules::keeps_rule(table) {
+    if !table::rule::keeps_rule(table) {
         return not_read(table, Refusal::TableBreaksRule);
     }
     let heard = command::hear(stretch);
-    let entry = gate::gate(table, question, heard);
+    let entry = crate::gate::gate(table, question, heard);
     match entry {
         Entry::Refused(why) => not_read(table, why),
         Entry::Open => read_open(table, question, heard, stretch),

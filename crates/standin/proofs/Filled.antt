@@ -17,13 +17,15 @@ use Rattle.record.specs.Alarm.{alarm}
 use Rattle.record.specs.Limits.{limits}
 use Rattle.record.specs.Texts.{serial, version}
 use Rattle.record.specs.Infos.{analogInfo, alarmInfo, limitsInfo, serialInfo, versionInfo, analogGroup, alarmGroup}
-use Rattle.writers.specs.Records.{recordWriting}
-use Rattle.writers.proofs.Texts.{led, flag-led, limits-length, serial-text, version-text, row-length}
+use Rattle.parts.specs.Records.{recordWriting}
+use Rattle.parts.proofs.writing.Texts.{led, flag-led, row-length}
+use Rattle.fixed.proofs.writer.Texts.{limits-length, serial-text, version-text}
 use Rattle.table.specs.declared.Station.{Station}
 use Rattle.table.specs.Table.{isOn, memberAt}
 use Rattle.table.specs.Rule.{rule}
-use Rattle.rules.proofs.Fine.{Fine}
-use Rattle.groups.specs.Groups.{analogsOn, alarmsOn, analogGroupWriting, alarmGroupWriting, analogText, alarmText}
+use Rattle.table.proofs.rule.Fine.{Fine}
+use Rattle.groups.specs.Groups.{analogsOn, alarmsOn, analogGroupWriting, alarmGroupWriting}
+use Rattle.groups.specs.Texts.{analogText, alarmText}
 use Rattle.groups.proofs.Texts.{analog-group, alarm-group}
 use Rattle.command.specs.declared.Kind.{Kind}
 use Rattle.command.specs.declared.Kind.the-variants.{Analog, AnalogGroup, Alarm, AlarmGroup, Protocol, Maker, Limits, Serial, TurnOff, Version, Unserved}

@@ -14,15 +14,15 @@ use Rattle.record.specs.declared.Analog.{Analog}
 use Rattle.record.specs.declared.Alarm.{Alarm}
 use Rattle.record.specs.Analog.{analog}
 use Rattle.record.specs.Alarm.{alarm}
-use Rattle.analog_writer.specs.Size.{analogSize}
-use Rattle.analog_writer.proofs.Lists.{measured-parts}
-use Rattle.analog_writer.proofs.Whole as A
-use Rattle.alarm_writer.proofs.Lists.{format-parts}
-use Rattle.alarm_writer.proofs.Whole as R
+use Rattle.analog.specs.Size.{analogSize}
+use Rattle.analog.proofs.writer.Lists.{measured-parts}
+use Rattle.analog.proofs.writer.Whole as A
+use Rattle.alarm.proofs.writer.Lists.{format-parts}
+use Rattle.alarm.proofs.writer.Whole as R
 use Rattle.table.specs.Table.{isOn, blank, placeOf, memberAt}
 use Rattle.table.specs.Rule.{rising, rule}
-use Rattle.rules.proofs.Fine.{Fine, fine-parts, rising-parts, rule-parts, record-fine}
-use Rattle.groups.specs.Groups.{textOn, textOfAll}
+use Rattle.table.proofs.rule.Fine.{Fine, fine-parts, rising-parts, rule-parts, record-fine}
+use Rattle.groups.specs.Texts.{textOn, textOfAll}
 
 -- ---- the member with an ADR
 

@@ -1,6 +1,6 @@
 -- The stand-in's answer: call refusals 32 and 31, silence, or a reply from SOI to CR; an accepted 95H switches its module off.
 use mathlib.Core.Path.{_≡_}
-use mathlib.Core.Bool.{Bool, cond}
+use mathlib.Core.Bool.{Bool, cond, _&&_}
 use mathlib.Core.List.{List, [], _++_}
 use Prim.Native.Nat.{ℕ}
 use lib.ListN.{length, drop, getD, set}
@@ -16,14 +16,12 @@ use Rattle.command.specs.declared.Kind.{Kind}
 use Rattle.command.specs.declared.Kind.the-variants.{Analog, AnalogGroup, Alarm, AlarmGroup, Protocol, Maker, Limits, Serial, TurnOff, Version, Unserved}
 use Rattle.command.specs.Command.{formOf}
 use Rattle.command.specs.Heard.{Words, words}
-use Rattle.changes.specs.Changes.{switchedOff}
+use Rattle.table.specs.Changes.{switchedOff}
 use Rattle.groups.specs.Groups.{analogsOn, alarmsOn}
-use Rattle.says.specs.declared.Said.{Said}
-use Rattle.says.specs.declared.Said.the-variants.{Silent, Code}
 use Rattle.standin.specs.declared.Answered.{Answered}
 use Rattle.standin.specs.declared.Answered.the-variants.{Silence, Reply, Refused}
 use Rattle.standin.specs.declared.Replied.{Replied}
-use Rattle.says.specs.Says.{decide}
+use Rattle.standin.specs.Says.{Speech, Silent, Code, decide}
 
 -- the data of each command; the flag is 00H
 unfoldable pub infoBy : Kind → Station → List Module → ℕ → List ℕ
@@ -50,22 +48,9 @@ infoFor st ms w code = cond (eqb code 0) (infoBy (kindAsked w) st ms (w .header 
 abbrev pub replyHeader : Station → Words → ℕ → Header
 replyHeader st w code = record { ver = st .ver; adr = w .header .adr; cid1 = 0x46; cid2 = code }
 
--- only an accepted 95H changes the table: the place of the module that goes off; 12, past every record, where none does
-unfoldable pub offBy : Kind → List Module → ℕ → ℕ
-offBy Analog ms adr = 12
-offBy AnalogGroup ms adr = 12
-offBy Alarm ms adr = 12
-offBy AlarmGroup ms adr = 12
-offBy Protocol ms adr = 12
-offBy Maker ms adr = 12
-offBy Limits ms adr = 12
-offBy Serial ms adr = 12
-offBy TurnOff ms adr = placeOf adr ms
-offBy Version ms adr = 12
-offBy Unserved ms adr = 12
-
-unfoldable pub offFor : List Module → Words → ℕ → ℕ
-offFor ms w code = cond (eqb code 0) (offBy (kindAsked w) ms (w .header .adr)) 12
+-- only an accepted 95H changes the table: the place of the module that goes off, and `none` where none does
+unfoldable pub offFor : ℕ → List Module → Words → ℕ → ℕ
+offFor none ms w code = cond (eqb code 0 && eqb (w .header .cid2) 0x95) (placeOf (w .header .adr) ms) none
 
 -- the record at that place switched off; past the end nothing changes
 unfoldable pub offAt : ℕ → List Module → List Module
@@ -94,18 +79,19 @@ leaves outcome off out = record { outcome = outcome; off = off; out = out }
 abbrev pub written : List ℕ → List ℕ → List ℕ
 written text out = text ++ drop (length text) out
 
-unfoldable pub says : Station → List Module → Words → Said → List ℕ → Left
-says st ms w Silent out = leaves silence 12 out
-says st ms w (Code code) out =
+-- `none` is the table's count, the place past every record of it
+unfoldable pub says : ℕ → Station → List Module → Words → Speech → List ℕ → Left
+says none st ms w Silent out = leaves silence none out
+says none st ms w (Code code) out =
     let text = encode (replyHeader st w code) (infoFor st ms w code) in
-    leaves (reply (length text)) (offFor ms w code) (written text out)
+    leaves (reply (length text)) (offFor none ms w code) (written text out)
 
 -- 32 (4,112 bytes), 31, then what is said
-unfoldable pub answer : Bool → Station → List Module → List ℕ → List ℕ → Left
-answer keeps st ms stretch out =
-    cond (ltb (length out) 4112) (leaves (refused 32) 12 out)
-    (cond keeps (says st ms (words stretch) (decide st ms (words stretch)) out)
-    (leaves (refused 31) 12 out))
+unfoldable pub answer : Bool → ℕ → Station → List Module → List ℕ → List ℕ → Left
+answer keeps none st ms stretch out =
+    cond (ltb (length out) 4112) (leaves (refused 32) none out)
+    (cond keeps (says none st ms (words stretch) (decide st ms (words stretch)) out)
+    (leaves (refused 31) none out))
 
 -- the contract of the stand-in
 abbrev pub Answers : Left → Replied → List ℕ → Type 0

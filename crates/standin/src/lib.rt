@@ -1,24 +1,24 @@
 // The stand-in: its answer to a stretch, over the table by value.
 
+mod says;
+
 ghost use mathlib.Core.Path.{_≡_};
 ghost use mathlib.Core.Bool.{true};
 ghost use mathlib.Core.List.{_++_};
 ghost use Prim.Native.Nat.{_≤_};
 ghost use lib.ListN.{length, drop};
-ghost use Rattle.buffer.specs.Writing.{wrote, leaves, Writes};
-ghost use Rattle.table.specs.Table.{isOn, memberAt};
+ghost use Rattle.buffer.specs.Writing.{wrote, leaves, Writes, paper as paperWritten, lengthWritten};
+ghost use Rattle.table.specs.Table.{isOn, memberAt, members};
 ghost use Rattle.table.specs.Rule.{keeps};
-ghost use Rattle.table.specs.Table.{members};
 ghost use Rattle.command.specs.Heard.{wordsOf};
-ghost use Rattle.says.specs.Says.{decide};
-ghost use Rattle.standin.specs.Answer.{infoBy, offBy, says, answer, Answers};
-ghost use Rattle.buffer.specs.Writing.{paper as paperWritten, lengthOf};
+ghost use Rattle.standin.specs.Says.{Code, decide};
+ghost use Rattle.standin.specs.Answer.{infoBy, offFor, says, answer, Answers};
+use crate::says::Said;
 use buffer::Written;
 use command::Heard;
 use command::Kind;
 use frame::Header;
 use refusal::Refusal;
-use says::Said;
 use table::Station;
 use table::Table;
 
@@ -29,7 +29,7 @@ pub enum Answered {
     Refused(Refusal),
 }
 
-// That, and the place of the record that goes off: 12, past every record, where none does.
+// That, and the place of the record that goes off: the table's count, past every record, where none does.
 pub struct Replied {
     pub answered: Answered,
     pub off: usize,
@@ -42,44 +42,37 @@ fn fill(info: &mut [u8], station: Station, table: Table, kind: Kind, adr: u8) ->
 {
     let member = table::member_at(table, adr);
     match kind {
-        Kind::Analog => analog_writer::write_analog(info, 0, member),
+        Kind::Analog => analog::writer::write_analog(info, 0, member),
         Kind::AnalogGroup => groups::write_analog_group(info, 0, table),
-        Kind::Alarm => alarm_writer::write_alarm(info, 0, member),
+        Kind::Alarm => alarm::writer::write_alarm(info, 0, member),
         Kind::AlarmGroup => groups::write_alarm_group(info, 0, table),
         Kind::Protocol => Written::Wrote(0),
         Kind::Maker => {
             let maker = station.maker;
             Written::Wrote(buffer::put_all(info, 0, &maker))
         }
-        Kind::Limits => writers::write_limits(info, member),
-        Kind::Serial => writers::write_serial(info, member),
+        Kind::Limits => fixed::writer::write_limits(info, member),
+        Kind::Serial => fixed::writer::write_serial(info, member),
         Kind::TurnOff => Written::Wrote(0),
-        Kind::Version => writers::write_version(info, member),
+        Kind::Version => fixed::writer::write_version(info, member),
         Kind::Unserved => Written::Wrote(0),
     }
 }
 
-// The place of the record that goes off.
-fn goes_off(table: Table, kind: Kind, adr: u8) -> usize
-    ensures { λ r. ⌜ r ≡ offBy kind (members table) adr ⌝ }
+// The place of the record that goes off: only an accepted 95H changes the table.
+fn goes_off(table: Table, heard: Heard, code: u8) -> usize
+    ensures { λ r. ⌜ r ≡ offFor (table .count) (members table) (wordsOf heard) code ⌝ }
 {
-    match kind {
-        Kind::Analog => 12,
-        Kind::AnalogGroup => 12,
-        Kind::Alarm => 12,
-        Kind::AlarmGroup => 12,
-        Kind::Protocol => 12,
-        Kind::Maker => 12,
-        Kind::Limits => 12,
-        Kind::Serial => 12,
-        Kind::TurnOff => table::place_of(table, adr),
-        Kind::Version => 12,
-        Kind::Unserved => 12,
+    let asked = heard.header;
+    let accepted = (code == 0) & (asked.cid2 == 0x95);
+    if accepted {
+        return table::place_of(table, asked.adr);
     }
+    table.count
 }
 
 fn length_of(written: Written) -> usize
-    ensures { λ r. ⌜ r ≡ lengthOf (paperWritten written) ⌝ }
+    ensures { λ r. ⌜ r ≡ lengthWritten (paperWritten written) ⌝ }
 {
     match written {
         Written::Wrote(n) => n,
@@ -89,8 +82,8 @@ fn length_of(written: Written) -> usize
 
 // Writes the reply with a code.
 fn reply(station: Station, table: Table, heard: Heard, code: u8, out: &mut [u8]) -> Replied
-    requires { ⌜ (keeps table ≡ true) × (decide station (members table) (wordsOf heard) ≡ Said.Code code) × (4112 ≤ length (now out)) ⌝ }
-    ensures { λ r. ⌜ Answers (says station (members table) (wordsOf heard) (Said.Code code) (now (out .entry))) r (now (out .exit)) ⌝ }
+    requires { ⌜ (keeps table ≡ true) × (decide station (members table) (wordsOf heard) ≡ Code code) × (4112 ≤ length (now out)) ⌝ }
+    ensures { λ r. ⌜ Answers (says (table .count) station (members table) (wordsOf heard) (Code code) (now (out .entry))) r (now (out .exit)) ⌝ }
 {
     let asked = heard.header;
     let adr = asked.adr;
@@ -100,18 +93,18 @@ fn reply(station: Station, table: Table, heard: Heard, code: u8, out: &mut [u8])
         cid1: 0x46,
         cid2: code,
     };
+    let off = goes_off(table, heard, code);
     let mut info = [0u8; 816];
     if code != 0 {
         let refused = frame::write(header, &info[..0], out);
         return Replied {
             answered: Answered::Reply(length_of(refused)),
-            off: 12,
+            off,
         };
     }
     let kind = command::form_of(asked.cid2, heard.command);
     let filled = fill(&mut info, station, table, kind, adr);
     let n = length_of(filled);
-    let off = goes_off(table, kind, adr);
     let written = frame::write(header, &info[..n], out);
     Replied {
         answered: Answered::Reply(length_of(written)),
@@ -121,26 +114,27 @@ fn reply(station: Station, table: Table, heard: Heard, code: u8, out: &mut [u8])
 
 // The answer to a stretch, the bytes between SOI and CR: 32 for a buffer below 4,112 bytes, 31, then silence or a reply.
 pub fn answer(station: Station, table: Table, stretch: &[u8], out: &mut [u8]) -> Replied
-    ensures { λ r. ⌜ Answers (answer (keeps table) station (members table) (now (stretch .entry)) (now (out .entry))) r (now (out .exit)) ⌝ }
+    ensures { λ r. ⌜ Answers (answer (keeps table) (table .count) station (members table) (now (stretch .entry)) (now (out .entry))) r (now (out .exit)) ⌝ }
 {
+    let none = table.count;
     if out.len() < 4112 {
         return Replied {
             answered: Answered::Refused(Refusal::BufferTooShort),
-            off: 12,
+            off: none,
         };
     }
-    if !rules::keeps_rule(table) {
+    if !table::rule::keeps_rule(table) {
         return Replied {
             answered: Answered::Refused(Refusal::TableBreaksRule),
-            off: 12,
+            off: none,
         };
     }
     let heard = command::hear(stretch);
-    let said = says::decide(station, table, heard);
+    let said = crate::says::decide(station, table, heard);
     match said {
         Said::Silent => Replied {
             answered: Answered::Silence,
-            off: 12,
+            off: none,
         },
         Said::Code(code) => reply(station, table, heard, code, out),
     }

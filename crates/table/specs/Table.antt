@@ -2,10 +2,13 @@
 use mathlib.Core.Bool.{Bool, true, false, cond, _&&_, _||_}
 use mathlib.Core.List.{List, [], _∷_}
 use Prim.Native.Nat.{ℕ, suc, _+_, _/_, _%_}
-use lib.ListN.{length, getD, take, replicate}
-use lib.IntN.{pos}
+use lib.ListN.{length, getD, take}
 use lib.Dec.{leb, ltb, eqb}
+use lib.IntN.{pos}
 use Rattle.record.specs.declared.Module.{Module}
+use Rattle.record.specs.Analog.{toAnalog}
+use Rattle.record.specs.Alarm.{toAlarm}
+use Rattle.record.specs.Nothing.{noList, noCapacities, noAnalog, noCodes, noSingles, noStatus, noAlarm, noLimits, noSerial, noVersion}
 use Rattle.table.specs.declared.Table.{Table}
 
 -- the records that are there
@@ -29,30 +32,24 @@ blank = record {
   adr = 0;
   on = 0;
   «link_fault» = 0;
-  analog = record {
-    «cell_count» = 0;
-    cells = replicate 16 (pos 0);
-    «temperature_count» = 0;
-    temperatures = replicate 8 (pos 0);
-    current = pos 0;
-    voltage = 0;
-    remaining = 0;
-    total = 0;
-    cycles = 0;
-  };
-  alarm = record {
-    «cell_count» = 0;
-    cells = replicate 16 0;
-    «temperature_count» = 0;
-    temperatures = replicate 8 0;
-    «charge_current» = 0;
-    «module_voltage» = 0;
-    «discharge_current» = 0;
-    status = replicate 5 0;
-  };
-  limits = record { «charge_voltage» = 0; «discharge_voltage» = 0; «charge_current» = pos 0; «discharge_current» = pos 0; status = 0 };
-  serial = replicate 16 0;
-  version = replicate 5 0;
+  analog = noAnalog;
+  alarm = noAlarm;
+  limits = noLimits;
+  serial = noSerial;
+  version = noVersion;
+}
+
+-- a record before anything was read into it: on, without a link fault, one cell and one temperature as the least that can be sent, and 0 in every other place
+abbrev pub newModule : ℕ → Module
+newModule adr = record {
+  adr = adr;
+  on = 1;
+  «link_fault» = 0;
+  analog = toAnalog ((1, noList 16), ((1, noList 8), (pos 0, (0, noCapacities))));
+  alarm = toAlarm ((1, noCodes 16), ((1, noCodes 8), (noSingles, noStatus)));
+  limits = noLimits;
+  serial = noSerial;
+  version = noVersion;
 }
 
 -- the place of the first record with this ADR, or the length

@@ -1,11 +1,11 @@
 // The table by value: one to twelve module records in rising ADR, and what is asked of it.
 
+pub mod changes;
+pub mod rule;
+
 ghost use mathlib.Core.Path.{_≡_};
 ghost use lib.ListN.{length};
-ghost use Rattle.table.specs.Table.{blank, members, placeOf, hasMember, memberAt, anyFault, countOn, oneIf, isMaster};
-use record::Alarm;
-use record::Analog;
-use record::Limits;
+ghost use Rattle.table.specs.Table.{blank, newModule, members, placeOf, hasMember, memberAt, anyFault, countOn, oneIf, isMaster};
 use record::Module;
 
 // The records that are there are the first `count`.
@@ -29,41 +29,38 @@ pub fn blank_module() -> Module
         adr: 0,
         on: 0,
         link_fault: 0,
-        analog: Analog {
-            cell_count: 0,
-            cells: [0; 16],
-            temperature_count: 0,
-            temperatures: [0; 8],
-            current: 0,
-            voltage: 0,
-            remaining: 0,
-            total: 0,
-            cycles: 0,
-        },
-        alarm: Alarm {
-            cell_count: 0,
-            cells: [0; 16],
-            temperature_count: 0,
-            temperatures: [0; 8],
-            charge_current: 0,
-            module_voltage: 0,
-            discharge_current: 0,
-            status: [0; 5],
-        },
-        limits: Limits {
-            charge_voltage: 0,
-            discharge_voltage: 0,
-            charge_current: 0,
-            discharge_current: 0,
-            status: 0,
-        },
+        analog: record::zero_analog(),
+        alarm: record::zero_alarm(),
+        limits: record::zero_limits(),
+        serial: [0; 16],
+        version: [0; 5],
+    }
+}
+
+// A record that can be sent before anything was read into it: on, with one cell, one temperature and 0 in every other place.
+pub fn new_module(adr: u8) -> Module
+    ensures { λ r. ⌜ r ≡ newModule adr ⌝ }
+{
+    let mut analog = record::zero_analog();
+    analog.cell_count = 1;
+    analog.temperature_count = 1;
+    let mut alarm = record::zero_alarm();
+    alarm.cell_count = 1;
+    alarm.temperature_count = 1;
+    Module {
+        adr,
+        on: 1,
+        link_fault: 0,
+        analog,
+        alarm,
+        limits: record::zero_limits(),
         serial: [0; 16],
         version: [0; 5],
     }
 }
 
 // How many records there are; a count above twelve has twelve.
-pub fn size(table: Table) -> usize
+fn size(table: Table) -> usize
     ensures { λ r. ⌜ r ≡ length (members table) ⌝ }
 {
     let count = table.count;
@@ -122,7 +119,7 @@ pub fn any_fault(table: Table) -> bool
     any
 }
 
-pub fn one(on: bool) -> usize
+fn one_if(on: bool) -> usize
     ensures { λ r. ⌜ r ≡ oneIf on ⌝ }
 {
     if on { 1 } else { 0 }
@@ -137,7 +134,7 @@ pub fn count_on(table: Table) -> usize
     let mut i: usize = 0;
     while i < n {
         let member = table.modules[i];
-        on += one(member.on == 1);
+        on += one_if(member.on == 1);
         i += 1;
     }
     on

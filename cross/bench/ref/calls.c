@@ -88,6 +88,7 @@ hanuzak_ran plain_run(hanuzak_receiver receiver, uint8_t *store, size_t n, const
     }
     while (ran.taken < m && ran.event.kind == NOTHING) {
         hanuzak_stepped stepped = plain_step(ran.next, store, n, piece[ran.taken]);
+        ran.held = stepped.event.kind == NOTHING ? 0 : ran.next.count;
         ran.next = stepped.next;
         ran.event = stepped.event;
         ran.taken++;

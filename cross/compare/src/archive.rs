@@ -178,6 +178,7 @@ pub fn outcome(case: &Case) -> Outcome {
                 Group::Alarm => linked::write_alarm_group(table, *flag, out),
             })
         }),
+        Case::ModuleNew { adr } => Outcome::of(Returned::Module(linked::module_new(*adr))),
         Case::Table { table } => Outcome::of(Returned::Number(linked::table(table))),
         Case::Record { table, at, other } => {
             Outcome::of(Returned::Module(linked::record(table, *at, *other)))

@@ -65,6 +65,9 @@ pub enum Case {
         flag: u8,
         out: Vec<u8>,
     },
+    ModuleNew {
+        adr: u8,
+    },
     Table {
         table: Vec<Module>,
     },
@@ -179,6 +182,7 @@ impl Case {
                 Group::Analog => "hanuzak_write_analog_group",
                 Group::Alarm => "hanuzak_write_alarm_group",
             },
+            Case::ModuleNew { .. } => "hanuzak_module_new",
             Case::Table { .. } => "hanuzak_table",
             Case::Record { .. } => "hanuzak_record",
             Case::Replace { .. } => "hanuzak_replace",

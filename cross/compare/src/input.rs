@@ -42,7 +42,7 @@ const MANY: u8 = 15;
 /// What stands for that count; each byte above it for one more.
 const RARE: u8 = 200;
 /// The functions, and the stream.
-const FORMS: u8 = 24;
+const FORMS: u8 = 25;
 
 const KINDS: [Kind; 5] = [
     Kind::Analog,
@@ -127,10 +127,11 @@ pub fn decoded(data: &[u8]) -> Input {
             piece: filled(bytes),
             out: filled(bytes),
         },
-        _ => Case::ListClose {
+        23 => Case::ListClose {
             listing: listing(bytes),
             out: filled(bytes),
         },
+        _ => Case::ModuleNew { adr: bytes.byte() },
     })
 }
 
@@ -403,6 +404,7 @@ pub fn encoded(case: &Case) -> Vec<u8> {
             put_listing(&mut data, listing);
             put_filled(&mut data, out);
         }
+        Case::ModuleNew { adr } => data.extend([24, *adr]),
         Case::TenthsCelsius { raw } => {
             data.push(17);
             data.extend(raw.to_be_bytes());

@@ -159,7 +159,7 @@ fn list(listing: &Listing, store: &mut [u8], piece: &[u8], out: &mut [u8]) -> Li
     }
 }
 
-/// "The two totals, the listing's last lines"; "32 for n below 38".
+/// "The two totals, the listing's last lines"; "32 for a buffer below 38 bytes".
 fn list_close(listing: &Listing, out: &mut [u8]) -> Result<usize, Number> {
     if out.len() < CLOSING {
         return Err(32);
@@ -222,6 +222,7 @@ pub fn outcome(case: &Case) -> Outcome {
                 next: receiver(ran.next),
                 event: event(ran.event),
                 taken: ran.taken,
+                held: ran.held,
             })
         }),
         Case::WriteFrame { header, info, out } => with_bytes(out, |out| {
@@ -261,6 +262,9 @@ pub fn outcome(case: &Case) -> Outcome {
                 Group::Alarm => reference::write_alarm_group(table, *flag, out),
             })
         }),
+        Case::ModuleNew { adr } => {
+            Outcome::of(Returned::Module(linked_of(&reference::new_module(*adr))))
+        }
         Case::Table { table } => {
             let rule = reference::rule(&references_of(table));
             Outcome::of(Returned::Number(rule.err().unwrap_or(0)))

@@ -188,14 +188,7 @@ pub fn unpacked(row: &[u8; PACKED]) -> Module {
 
 /// The plainest record that a table may hold: on, one cell, one temperature, all else 0.
 pub fn plain(adr: u8) -> Module {
-    let mut module = Module {
-        adr,
-        on: 1,
-        ..Module::default()
-    };
-    (module.analog.cell_count, module.analog.temperature_count) = (1, 1);
-    (module.alarm.cell_count, module.alarm.temperature_count) = (1, 1);
-    module
+    linked_of(&reference::new_module(adr))
 }
 
 #[cfg(test)]

@@ -190,6 +190,7 @@ pub fn parts(case: &mut Case) -> Parts<'_> {
         },
         // Nothing, or one number, whose whole range is compared anyway.
         Case::ReceiverNew
+        | Case::ModuleNew { .. }
         | Case::ListingNew
         | Case::TenthsCelsius { .. }
         | Case::Milliamps { .. } => Parts::none(),

@@ -185,7 +185,7 @@ impl fmt::Display for Tally {
     }
 }
 
-/// Each end that document 01 lets a function have.
+/// Each end that the protocol lets a function have.
 fn required() -> Vec<(&'static str, End)> {
     let refused =
         |numbers: &[u32]| -> Vec<End> { numbers.iter().map(|&n| End::Refused(n)).collect() };
@@ -220,6 +220,7 @@ fn required() -> Vec<(&'static str, End)> {
             vec![End::Wrote, End::Refused(31), End::Refused(32)],
         );
     }
+    add("hanuzak_module_new", vec![End::Plain]);
     add("hanuzak_table", vec![End::Plain, End::Refused(31)]);
     for function in ["hanuzak_record", "hanuzak_replace", "hanuzak_switch_off"] {
         add(function, vec![End::Inside, End::Past]);

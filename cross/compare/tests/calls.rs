@@ -1,5 +1,5 @@
 //! The comparisons that the gate runs: a fixed seed, at least a million calls, and every end that
-//! document 01 lets a function have. It prints what it has compared.
+//! the protocol lets a function have. It prints what it has compared.
 
 use compare::{all, input, paper, Comparison};
 use std::process::ExitCode;

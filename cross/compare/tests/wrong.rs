@@ -133,6 +133,21 @@ fn run_leaves_the_byte_of_the_event() {
 }
 
 #[test]
+fn held_is_the_bytes_taken() {
+    found(
+        receiver::all,
+        |case| {
+            let mut outcome = paper::outcome(case);
+            if let Returned::Ran(ran) = &mut outcome.returned {
+                ran.held = ran.taken;
+            }
+            outcome
+        },
+        20,
+    );
+}
+
+#[test]
 fn count_4110_is_too_many() {
     found(
         receiver::all,
@@ -232,6 +247,24 @@ fn members_that_are_off_are_written() {
         panic!("{case:?}");
     };
     assert_eq!(table.len(), 1);
+}
+
+#[test]
+fn a_new_record_is_off() {
+    let case = found(
+        tables::all,
+        |case| {
+            let mut outcome = paper::outcome(case);
+            if let (Case::ModuleNew { .. }, Returned::Module(module)) =
+                (case, &mut outcome.returned)
+            {
+                module.on = 0;
+            }
+            outcome
+        },
+        2,
+    );
+    assert!(matches!(case, Case::ModuleNew { .. }));
 }
 
 #[test]

@@ -27,7 +27,7 @@ layout!(Written: 16, 8; number 0 4, length 8 8);
 layout!(Event: 24, 8; kind 0 4, number 4 4, ver 8 1, adr 9 1, cid1 10 1, cid2 11 1, lenid 16 8);
 layout!(Receiver: 16, 8; open 0 8, count 8 8);
 layout!(Stepped: 40, 8; next 0 16, event 16 24);
-layout!(Ran: 48, 8; next 0 16, event 16 24, taken 40 8);
+layout!(Ran: 56, 8; next 0 16, event 16 24, taken 40 8, held 48 8);
 layout!(Listing: 32, 8; receiver 0 16, offset 16 4, frames 20 4, refusals 24 4);
 layout!(Listed: 56, 8; next 0 32, taken 32 8, written 40 16);
 layout!(Answered: 16, 8; kind 0 4, number 4 4, length 8 8);

@@ -107,6 +107,12 @@ pub fn write_alarm_group(table: &[Module], flag: u8, out: &mut [u8]) -> Written 
     unsafe { sys::hanuzak_write_alarm_group(table.as_ptr(), table.len(), flag, to, m) }
 }
 
+/// A new record: on, with one cell, one temperature and 0 in every other place.
+pub fn module_new(adr: u8) -> Module {
+    // SAFETY: it is lent nothing.
+    unsafe { sys::hanuzak_module_new(adr) }
+}
+
 /// 0 where the records keep the table's rule, else 31.
 pub fn table(table: &[Module]) -> u8 {
     // SAFETY: the slice is readable for its length.

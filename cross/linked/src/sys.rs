@@ -42,6 +42,7 @@ extern "C" {
         out: *mut u8,
         m: usize,
     ) -> Written;
+    pub fn hanuzak_module_new(adr: u8) -> Module;
     pub fn hanuzak_table(table: *const Module, n: usize) -> u8;
     pub fn hanuzak_record(table: *const Module, n: usize, at: usize, other: Module) -> Module;
     pub fn hanuzak_replace(table: *mut Module, n: usize, at: usize, module: Module);

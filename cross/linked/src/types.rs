@@ -154,6 +154,8 @@ pub struct Ran {
     pub event: Event,
     /// How many bytes of the piece.
     pub taken: usize,
+    /// How many characters the stretch had when the event's byte came; 0 with nothing, 32 and 35.
+    pub held: usize,
 }
 
 /// Where a listing stands.

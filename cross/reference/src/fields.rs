@@ -1,5 +1,5 @@
-//! The field reader: "holds the INFO part and its place in it; few functions work on it". On it, the
-//! records "in byte order".
+//! The field reader, which holds INFO and its place in it, and on it the records in byte order
+//! (PROTOCOL 9).
 
 use crate::module::{is_cell_count, is_code, is_temperature_count, Alarm, Analog, Limits, SMALL};
 use crate::Number;
@@ -22,14 +22,14 @@ impl<'a> Fields<'a> {
         self.place == self.info.len()
     }
 
-    /// The next byte; 16: "INFO ends before a needed byte".
+    /// The next byte; 16 where INFO ends before it (PROTOCOL 9.1).
     pub fn next_byte(&mut self) -> Result<u8, Number> {
         let byte = *self.info.get(self.place).ok_or(16)?;
         self.place += 1;
         Ok(byte)
     }
 
-    /// The next two bytes: "All numbers are high byte first."
+    /// The next two bytes, high byte first (PROTOCOL 1.6).
     pub fn next_word(&mut self) -> Result<u16, Number> {
         let high = self.next_byte()?;
         let low = self.next_byte()?;
@@ -48,7 +48,7 @@ fn next_three(fields: &mut Fields) -> Result<u32, Number> {
     Ok(high * 65_536 + u32::from(fields.next_word()?))
 }
 
-/// An alarm code; 20: "alarm code not 00, 01, 02 or F0".
+/// An alarm code; 20 for a byte that is none (PROTOCOL 9.13).
 fn next_code(fields: &mut Fields) -> Result<u8, Number> {
     let code = fields.next_byte()?;
     if is_code(code) {
@@ -58,7 +58,7 @@ fn next_code(fields: &mut Fields) -> Result<u8, Number> {
     }
 }
 
-/// M; 15: "cell count not 1 to 16".
+/// M; 15 where it is not 1 to 16.
 fn next_cell_count(fields: &mut Fields) -> Result<u8, Number> {
     let count = fields.next_byte()?;
     if is_cell_count(count) {
@@ -68,7 +68,7 @@ fn next_cell_count(fields: &mut Fields) -> Result<u8, Number> {
     }
 }
 
-/// N; 15: "or temperature count not 1 to 8".
+/// N; 15 where it is not 1 to 8.
 fn next_temperature_count(fields: &mut Fields) -> Result<u8, Number> {
     let count = fields.next_byte()?;
     if is_temperature_count(count) {
@@ -87,11 +87,11 @@ pub fn next_bytes<const N: usize>(fields: &mut Fields) -> Result<[u8; N], Number
     Ok(bytes)
 }
 
-/// One record of 42H: "M; M cells, signed mV; N; N temperatures, 2 bytes; current; module voltage,
-/// unsigned mV; remaining 1, 2 bytes; items; total 1, 2 bytes; cycles, 2 bytes. With items 4 then
-/// remaining 2 and total 2, 3 bytes each." "Refusal 19 comes after its record's last byte."
+/// One record of 42H (PROTOCOL 9.5): M and the cells, N and the temperatures, current, module
+/// voltage, remaining 1, items, total 1, cycles, and with items 4 remaining 2 and total 2. 19 comes
+/// after the record's last byte (PROTOCOL 8.7).
 pub fn next_analog(fields: &mut Fields) -> Result<Analog, Number> {
-    // List places beyond M or N "hold 0, after reading too".
+    // List places beyond M or N hold 0 (PROTOCOL 5.8).
     let mut analog = Analog {
         cell_count: next_cell_count(fields)?,
         ..Analog::default()
@@ -107,7 +107,7 @@ pub fn next_analog(fields: &mut Fields) -> Result<Analog, Number> {
     analog.voltage = fields.next_word()?;
     let remaining_1 = fields.next_word()?;
     let items = fields.next_byte()?;
-    // 18: "user defined items neither 2 nor 4".
+    // 18: items are neither 2 nor 4.
     if items != 2 && items != 4 {
         return Err(18);
     }
@@ -116,14 +116,14 @@ pub fn next_analog(fields: &mut Fields) -> Result<Analog, Number> {
     if items == 2 {
         analog.remaining = u32::from(remaining_1);
         analog.total = u32::from(total_1);
-        // "Items 2: both at most 65,000."
+        // Items 2: both at most 65,000 (PROTOCOL 9.9).
         if analog.remaining > SMALL || analog.total > SMALL {
             return Err(19);
         }
     } else {
         analog.remaining = next_three(fields)?;
         analog.total = next_three(fields)?;
-        // "Items 4: both two-byte fields FFFFH, and total 2 above 65,000."
+        // Items 4: both two-byte fields FFFFH, and total 2 above 65,000.
         if remaining_1 != 0xFFFF || total_1 != 0xFFFF || analog.total <= SMALL {
             return Err(19);
         }
@@ -131,8 +131,8 @@ pub fn next_analog(fields: &mut Fields) -> Result<Analog, Number> {
     Ok(analog)
 }
 
-/// One record of 44H: "M, M codes, N, N codes, codes for charge current, module voltage and
-/// discharge current, status 1 to 5".
+/// One record of 44H (PROTOCOL 9.12): M and the cells' codes, N and the temperatures' codes, the
+/// codes for charge current, module voltage and discharge current, status 1 to 5.
 pub fn next_alarm(fields: &mut Fields) -> Result<Alarm, Number> {
     let mut alarm = Alarm {
         cell_count: next_cell_count(fields)?,
@@ -152,8 +152,7 @@ pub fn next_alarm(fields: &mut Fields) -> Result<Alarm, Number> {
     Ok(alarm)
 }
 
-/// The record of 92H: "two voltage limits (unsigned mV), two current limits (signed, 100 mA),
-/// status".
+/// The record of 92H (PROTOCOL 9.17): two voltage limits, two current limits, status.
 pub fn next_limits(fields: &mut Fields) -> Result<Limits, Number> {
     Ok(Limits {
         charge_voltage: fields.next_word()?,

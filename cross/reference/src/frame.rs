@@ -1,17 +1,18 @@
-//! The frame: LENGTH, CHKSUM, judging the characters between SOI and CR, writing a frame.
+//! The frame: LENGTH, CHKSUM, judging the characters between SOI and CR, writing a frame
+//! (PROTOCOL 2).
 
 use crate::{hex, Number};
 
-/// "SOI is 7EH (tilde)".
+/// SOI, tilde.
 pub const SOI: u8 = 0x7E;
-/// "EOI is 0DH (CR)".
+/// EOI, CR.
 pub const CR: u8 = 0x0D;
 /// The most characters between SOI and CR: 16 and the 4,094 of the longest INFO.
 pub const MOST_CHARACTERS: usize = 4_110;
-/// "INFO has 0 to 2,047 bytes."
+/// The most bytes of INFO (PROTOCOL 2.4).
 pub const MOST_INFO: usize = 2_047;
 
-/// "VER, ADR, CID1, CID2 (one byte each)".
+/// The four bytes in front (PROTOCOL 2.2).
 #[derive(Clone, Copy, Debug, Default, PartialEq, Eq)]
 pub struct Header {
     /// The protocol's version.
@@ -24,7 +25,7 @@ pub struct Header {
     pub cid2: u8,
 }
 
-/// "a frame with its four bytes"; "a frame's event also carries LENID".
+/// A frame with its four bytes and LENID.
 #[derive(Clone, Copy, Debug, PartialEq, Eq)]
 pub struct Frame {
     /// The four bytes.
@@ -33,8 +34,8 @@ pub struct Frame {
     pub lenid: usize,
 }
 
-/// "LCHKSUM, the top 4 bits: the three digits of LENID are summed modulo 16 and taken from 16;
-/// remainder 0 gives 0."
+/// LCHKSUM: the three hex digits of LENID are added modulo 16, and the remainder is taken from 16;
+/// remainder 0 gives 0 (PROTOCOL 2.5).
 pub fn lchksum(lenid: u16) -> u16 {
     let sum = (lenid >> 8 & 0xF) + (lenid >> 4 & 0xF) + (lenid & 0xF);
     match sum % 16 {
@@ -43,13 +44,13 @@ pub fn lchksum(lenid: u16) -> u16 {
     }
 }
 
-/// LENGTH: LCHKSUM in the top 4 bits, "LENID, the low 12 bits".
+/// LENGTH: LCHKSUM in the top 4 bits, LENID in the low 12.
 pub fn length(lenid: u16) -> u16 {
     lchksum(lenid) << 12 | lenid & 0x0FFF
 }
 
-/// "CHKSUM: the values of all characters after SOI and before CHKSUM are added modulo 65,536, then
-/// taken from 65,536; remainder 0 gives 0."
+/// CHKSUM: the values of all characters after SOI and before CHKSUM are added modulo 65,536, and the
+/// remainder is taken from 65,536; remainder 0 gives 0 (PROTOCOL 2.6).
 pub fn chksum(characters: &[u8]) -> u16 {
     let mut sum: u32 = 0;
     for &character in characters {
@@ -61,7 +62,7 @@ pub fn chksum(characters: &[u8]) -> u16 {
     }
 }
 
-/// Judges the bytes between SOI and CR: "1 if longer than 4,110, then 3 to 8", in that order.
+/// Judges the bytes between SOI and CR: 1 above 4,110, then 3 to 8, in that order (PROTOCOL 2.10).
 pub fn judge(stretch: &[u8]) -> Result<Frame, Number> {
     // 1: a 4,111th character arrives.
     if stretch.len() > MOST_CHARACTERS {
@@ -107,14 +108,14 @@ pub fn judge(stretch: &[u8]) -> Result<Frame, Number> {
     })
 }
 
-/// INFO's bytes: "its INFO characters are at places 12 to 11 + LENID". Empty for what is no frame.
+/// INFO's bytes, whose characters are at places 12 to 11 + LENID. Empty for what is no frame.
 pub fn info(stretch: &[u8], frame: Frame) -> Vec<u8> {
     let characters = stretch.get(12..12 + frame.lenid).unwrap_or(&[]);
     hex::bytes(characters).unwrap_or_default()
 }
 
-/// Writes a frame from SOI to CR and says how long it is: "writer of a frame 33, then 32 if the
-/// buffer is shorter than 18 + LENID"; "the frame writer is given INFO as bytes (above 2,047: 33)".
+/// Writes a frame from SOI to CR and says how long it is: 33 for INFO above 2,047 bytes, then 32 for
+/// a buffer shorter than 18 + LENID (PROTOCOL 2.12).
 pub fn write_frame(header: Header, info: &[u8], out: &mut [u8]) -> Result<usize, Number> {
     if info.len() > MOST_INFO {
         return Err(33);

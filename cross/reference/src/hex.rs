@@ -1,6 +1,7 @@
-//! Characters and bytes: "characters `0`-`9` and `A`-`F` only, two for each byte, high digit first".
+//! Characters and bytes: `0` to `9` and `A` to `F` only, two for each byte, high digit first
+//! (PROTOCOL 2.3).
 
-/// The value of a character. "Lower case is not hex here."
+/// The value of a character. Lower case is not hex here.
 pub fn digit(character: u8) -> Option<u8> {
     match character {
         b'0'..=b'9' => Some(character - b'0'),
@@ -14,7 +15,7 @@ pub fn character(digit: u8) -> u8 {
     b"0123456789ABCDEF"[usize::from(digit & 0x0F)]
 }
 
-/// The characters of bytes: "two for each byte, high digit first".
+/// The characters of bytes, two for each, high digit first.
 pub fn characters(bytes: &[u8]) -> Vec<u8> {
     let mut characters = Vec::new();
     for byte in bytes {

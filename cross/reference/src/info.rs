@@ -1,13 +1,13 @@
-//! INFO with a Command byte: "There is a record writer for each kind". Each gives INFO as bytes and
-//! says how many; "each changes only the bytes it writes".
+//! INFO with a Command byte: a record writer for each kind (PROTOCOL 10). Each gives INFO as bytes,
+//! says how many, and changes no other byte.
 
 use crate::module::{is_address, items, used, Alarm, Analog, Limits, Module};
 use crate::{table, Number};
 
-/// "FFH at the master for the whole group".
+/// Command for the whole group, at the master (PROTOCOL 5.9).
 pub const GROUP: u8 = 0xFF;
 
-/// One record of 42H, "length 13 + 2M + 2N, or 6 more"; none where it can't be encoded.
+/// One record of 42H, 13 + 2M + 2N bytes or 6 more (PROTOCOL 9.6); none where it can't be encoded.
 fn analog_record(analog: &Analog) -> Option<Vec<u8>> {
     if !analog.is_encodable() {
         return None;
@@ -38,7 +38,7 @@ fn analog_record(analog: &Analog) -> Option<Vec<u8>> {
     Some(bytes)
 }
 
-/// One record of 44H, "length 10 + M + N"; none where it can't be encoded.
+/// One record of 44H, 10 + M + N bytes (PROTOCOL 9.12); none where it can't be encoded.
 fn alarm_record(alarm: &Alarm) -> Option<Vec<u8>> {
     if !alarm.is_encodable() {
         return None;
@@ -65,7 +65,7 @@ fn limits_record(limits: &Limits) -> Vec<u8> {
     bytes
 }
 
-/// "32 if the buffer is shorter than the record's INFO", otherwise the bytes are put.
+/// 32 where the buffer is shorter than INFO (PROTOCOL 10.4), otherwise the bytes are put.
 fn put(info: &[u8], out: &mut [u8]) -> Result<usize, Number> {
     if out.len() < info.len() {
         return Err(32);
@@ -74,8 +74,8 @@ fn put(info: &[u8], out: &mut [u8]) -> Result<usize, Number> {
     Ok(info.len())
 }
 
-/// "writer of a record 33, then 32": one record behind what stands before it. 33 is also for "an
-/// ADR outside the address rule".
+/// One record behind what stands before it: 33, for an ADR outside the address rule too, then 32
+/// (PROTOCOL 10.3, 10.4).
 fn write_one(
     adr: u8,
     before: &[u8],
@@ -91,8 +91,8 @@ fn write_one(
     put(&info, out)
 }
 
-/// "or for FFH the lent table: then 31, then 32, and with no member on only the flag and FFH are
-/// written"; "the records of the members that are on, in rising ADR".
+/// The flag, FFH and the records of the members that are on, in rising ADR: 31, then 32
+/// (PROTOCOL 9.4, 10.5).
 fn write_group(
     lent: &[Module],
     flag: u8,
@@ -107,33 +107,32 @@ fn write_group(
     put(&info, out)
 }
 
-/// INFO of 42H for one module: "flag byte, Command byte, then one record", whose "ADR is Command
-/// and of which only ADR and that kind's fields are judged".
+/// INFO of 42H for one module: flag, Command, the record (PROTOCOL 9.5). Command is the record's
+/// ADR, and only ADR and this kind's fields are judged (PROTOCOL 10.2, 10.3).
 pub fn write_analog(module: &Module, flag: u8, out: &mut [u8]) -> Result<usize, Number> {
     let record = analog_record(&module.analog);
     write_one(module.adr, &[flag, module.adr], record, out)
 }
 
-/// INFO of 44H for one module: "flag byte, Command byte, then one record".
+/// INFO of 44H for one module: flag, Command, the record (PROTOCOL 9.12).
 pub fn write_alarm(module: &Module, flag: u8, out: &mut [u8]) -> Result<usize, Number> {
     let record = alarm_record(&module.alarm);
     write_one(module.adr, &[flag, module.adr], record, out)
 }
 
-/// INFO of 92H: "Command, two voltage limits (unsigned mV), two current limits (signed, 100 mA),
-/// status: 10 bytes".
+/// INFO of 92H: Command, two voltage limits, two current limits, status (PROTOCOL 9.17).
 pub fn write_limits(module: &Module, out: &mut [u8]) -> Result<usize, Number> {
     let record = limits_record(&module.limits);
     write_one(module.adr, &[module.adr], Some(record), out)
 }
 
-/// INFO of 93H: "Command and 16 bytes".
+/// INFO of 93H: Command and 16 bytes (PROTOCOL 9.19).
 pub fn write_serial(module: &Module, out: &mut [u8]) -> Result<usize, Number> {
     let record = module.serial.to_vec();
     write_one(module.adr, &[module.adr], Some(record), out)
 }
 
-/// INFO of 96H: "Command and 5 bytes".
+/// INFO of 96H: Command and 5 bytes (PROTOCOL 9.20).
 pub fn write_version(module: &Module, out: &mut [u8]) -> Result<usize, Number> {
     let record = module.version.to_vec();
     write_one(module.adr, &[module.adr], Some(record), out)

@@ -1,8 +1,8 @@
-//! Document 01 a second time: frames, receiver, records, table, stand-in, reply reader and listing.
+//! The protocol a second time: frames, receiver, records, table, stand-in, reply reader and listing.
 //!
-//! It is written from the papers alone, to be held against the proved library. So it is plain and
-//! not fast: every function is one sentence of the paper, and the sentence stands above it.
-//! Refusals are the paper's numbers.
+//! It is written from the rules alone, to be held against the proved library. So it is plain and
+//! not fast: every function is one rule, and the rule stands above it. PROTOCOL 2.3 is paragraph
+//! 2.3 of `docs/PROTOCOL.md`. Refusals are its numbers.
 
 #![forbid(unsafe_code)]
 
@@ -26,11 +26,11 @@ pub use info::{
 };
 pub use listing::{listing, Lister};
 pub use meaning::{milliamps, tenths_celsius};
-pub use module::{Alarm, Analog, Limits, Module};
+pub use module::{new_module, Alarm, Analog, Limits, Module};
 pub use receiver::{run, step, Event, Ran, Receiver};
 pub use reply::{read_reply, Question, Reply};
 pub use standin::{answer, Answer};
 pub use table::{rule, Station};
 
-/// A refusal: its number in the paper's table "Numbers and what they leave".
+/// A refusal: its number (PROTOCOL 4.2 to 4.4).
 pub type Number = u8;

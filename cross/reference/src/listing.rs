@@ -1,9 +1,9 @@
-//! The listing: "A frame gives six lines, a refusal two; the keys stand in this order."
+//! The listing: a frame gives six lines, a refusal two (PROTOCOL 11).
 
 use crate::frame::{MOST_CHARACTERS, SOI};
 use crate::receiver::{step, Event, Receiver};
 
-/// "the first 1,073,741,824 bytes and no more".
+/// How many bytes are listed, and no more.
 pub const MOST_BYTES: u64 = 1_073_741_824;
 
 /// A listing under way: the receiver, its store, the place in the stream and the totals.
@@ -102,8 +102,8 @@ impl Lister {
                     text.extend(format!("refused={number}\n").bytes());
                 }
             }
-            // "`at` is the decimal offset of the SOI that opened the stretch": this byte, from the
-            // next event on.
+            // `at` is the offset of the SOI that opened the stretch: this byte, from the next event
+            // on (PROTOCOL 11.3).
             if byte == SOI {
                 self.opened = self.offset;
             }
@@ -112,7 +112,7 @@ impl Lister {
         text
     }
 
-    /// "Two totals close it." "An open frame at the end gives nothing."
+    /// The two totals that close it; an open frame at the end gives nothing (PROTOCOL 11.5, 11.6).
     pub fn totals(&self) -> Vec<u8> {
         format!("frames={}\nrefusals={}\n", self.frames, self.refusals).into_bytes()
     }

@@ -1,11 +1,11 @@
 //! What sent numbers mean.
 
-/// "Temperature is signed; tenths of a degree Celsius = value - 2731."
+/// A temperature in tenths of a degree Celsius: value - 2731 (PROTOCOL 9.11).
 pub fn tenths_celsius(value: i16) -> i32 {
     i32::from(value) - 2_731
 }
 
-/// "Current is read as a signed number of 100 mA, charge positive", in mA.
+/// A current, which is sent in 100 mA, charge positive, in mA (PROTOCOL 9.10).
 pub fn milliamps(value: i16) -> i32 {
     i32::from(value) * 100
 }

@@ -1,5 +1,5 @@
-//! The module record: "ADR, on or off, an internal link fault mark, and what 42H, 44H, 92H, 93H and
-//! 96H carry", with what each kind's fields must be to be encodable.
+//! The module record: ADR, on or off, the link fault mark, and what 42H, 44H, 92H, 93H and 96H carry
+//! (PROTOCOL 5.5), with what each kind's fields must be to be encodable (PROTOCOL 5.6).
 
 /// What 42H carries.
 #[repr(C)]
@@ -7,7 +7,7 @@
 pub struct Analog {
     /// M, the number of cells, 1 to 16.
     pub cell_count: u8,
-    /// "M cells, signed mV".
+    /// M cells, mV.
     pub cells: [i16; 16],
     /// N, the number of temperatures, 1 to 8.
     pub temperature_count: u8,
@@ -15,7 +15,7 @@ pub struct Analog {
     pub temperatures: [i16; 8],
     /// The current as sent; see [`crate::milliamps`].
     pub current: i16,
-    /// "module voltage, unsigned mV".
+    /// The module voltage, mV.
     pub voltage: u16,
     /// The remaining capacity in mAh.
     pub remaining: u32,
@@ -25,7 +25,7 @@ pub struct Analog {
     pub cycles: u16,
 }
 
-/// What 44H carries: "M and N here may differ from those of 42H".
+/// What 44H carries; M and N may differ from those of 42H.
 #[repr(C)]
 #[derive(Clone, Copy, Debug, Default, PartialEq, Eq)]
 pub struct Alarm {
@@ -43,7 +43,7 @@ pub struct Alarm {
     pub module_voltage: u8,
     /// The code for the discharge current.
     pub discharge_current: u8,
-    /// "Status bytes are kept whole, reserved bits too."
+    /// Status 1 to 5, kept whole.
     pub status: [u8; 5],
 }
 
@@ -85,37 +85,50 @@ pub struct Module {
     pub version: [u8; 5],
 }
 
+/// A record before anything was read into it: on, with one cell and one temperature as the least
+/// that can be sent, and 0 in every other place.
+pub fn new_module(adr: u8) -> Module {
+    let mut module = Module {
+        adr,
+        on: 1,
+        ..Module::default()
+    };
+    (module.analog.cell_count, module.analog.temperature_count) = (1, 1);
+    (module.alarm.cell_count, module.alarm.temperature_count) = (1, 1);
+    module
+}
+
 /// The most that three bytes hold.
 const THREE_BYTES: u32 = 0xFF_FFFF;
 /// The 65 Ah of the rule, in mAh.
 pub const SMALL: u32 = 65_000;
 
-/// "ADR is n + 16m, n from 2 to 13, m from 0 to 7".
+/// ADR is n + 16m, n from 2 to 13, m from 0 to 7 (PROTOCOL 5.1).
 pub fn is_address(adr: u8) -> bool {
     (2..=13).contains(&(adr % 16)) && adr / 16 <= 7
 }
 
-/// "n = 2 is the master battery (02, 12, up to 72 in hex)."
+/// n = 2 is the master battery: 02H, 12H, up to 72H (PROTOCOL 5.2).
 pub fn is_master(adr: u8) -> bool {
     is_address(adr) && adr % 16 == 2
 }
 
-/// "alarm code not 00, 01, 02 or F0" is what 20 refuses.
+/// The alarm codes; 20 refuses any other (PROTOCOL 9.13).
 pub fn is_code(code: u8) -> bool {
     matches!(code, 0x00 | 0x01 | 0x02 | 0xF0)
 }
 
-/// "cell count not 1 to 16" is what 15 refuses.
+/// M; 15 refuses any other.
 pub fn is_cell_count(count: u8) -> bool {
     (1..=16).contains(&count)
 }
 
-/// "or temperature count not 1 to 8" is what 15 refuses.
+/// N; 15 refuses any other.
 pub fn is_temperature_count(count: u8) -> bool {
     (1..=8).contains(&count)
 }
 
-/// "Total 65,000: items 2. Total 65,001: items 4."
+/// Items follow from total: 2 up to 65,000, 4 above (PROTOCOL 5.7).
 pub fn items(total: u32) -> u8 {
     if total <= SMALL {
         2
@@ -124,8 +137,8 @@ pub fn items(total: u32) -> u8 {
     }
 }
 
-/// "Items 2: both at most 65,000. Items 4: both two-byte fields FFFFH, and total 2 above 65,000",
-/// in three bytes each.
+/// With items 2 both are at most 65,000; with items 4 total is above it, and both are three bytes
+/// (PROTOCOL 9.9).
 pub fn are_capacities(remaining: u32, total: u32) -> bool {
     match items(total) {
         2 => remaining <= SMALL,
@@ -133,7 +146,7 @@ pub fn are_capacities(remaining: u32, total: u32) -> bool {
     }
 }
 
-/// "list places beyond M or N hold 0".
+/// List places beyond M or N hold 0.
 fn beyond_is_zero<T: Default + PartialEq>(list: &[T], count: u8) -> bool {
     list.iter()
         .skip(usize::from(count))
@@ -146,7 +159,7 @@ pub fn used<T>(list: &[T], count: u8) -> &[T] {
 }
 
 impl Analog {
-    /// "every value must be encodable, and list places beyond M or N hold 0".
+    /// Every value can be encoded, and list places beyond M or N hold 0 (PROTOCOL 5.6).
     pub fn is_encodable(&self) -> bool {
         is_cell_count(self.cell_count)
             && beyond_is_zero(&self.cells, self.cell_count)
@@ -157,7 +170,7 @@ impl Analog {
 }
 
 impl Alarm {
-    /// "every value must be encodable, and list places beyond M or N hold 0".
+    /// Every value can be encoded, and list places beyond M or N hold 0 (PROTOCOL 5.6).
     pub fn is_encodable(&self) -> bool {
         is_cell_count(self.cell_count)
             && beyond_is_zero(&self.cells, self.cell_count)

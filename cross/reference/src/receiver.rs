@@ -1,10 +1,9 @@
-//! The receiver: "waiting or open with a count of characters, and it writes them to a lent store of
-//! at least 4,110 bytes".
+//! The receiver, which writes the characters to a lent store of at least 4,110 bytes (PROTOCOL 3).
 
 use crate::frame::{judge, Frame, CR, MOST_CHARACTERS, SOI};
 use crate::Number;
 
-/// "The receiver is waiting or open with a count of characters".
+/// Waiting, or open with a count of characters (PROTOCOL 3.1).
 #[derive(Clone, Copy, Debug, Default, PartialEq, Eq)]
 pub enum Receiver {
     /// No stretch is open.
@@ -14,7 +13,7 @@ pub enum Receiver {
     Open(usize),
 }
 
-/// "Each byte gives one event: nothing, a frame with its four bytes or a refusal with its number."
+/// Each byte gives one event (PROTOCOL 3.2).
 #[derive(Clone, Copy, Debug, PartialEq, Eq)]
 pub enum Event {
     /// Nothing.
@@ -32,13 +31,14 @@ pub struct Ran {
     pub next: Receiver,
     /// The first event that isn't nothing, or nothing.
     pub event: Event,
-    /// "how many bytes it took, 0 with 32 or 35".
+    /// How many bytes it took, 0 with 32 and 35.
     pub taken: usize,
     /// How many characters the stretch held when the event's byte came; 0 with nothing, 32 and 35.
     pub held: usize,
 }
 
-/// "Call refusals come first: receiver 32, 35": a store below 4,110 bytes, a count above 4,110.
+/// Call refusals come first: 32 for a store below 4,110 bytes, 35 for a count above 4,110
+/// (PROTOCOL 3.8).
 fn call_refusal(receiver: Receiver, store: &[u8]) -> Option<Number> {
     if store.len() < MOST_CHARACTERS {
         return Some(32);
@@ -49,25 +49,25 @@ fn call_refusal(receiver: Receiver, store: &[u8]) -> Option<Number> {
     }
 }
 
-/// Takes one byte. "After 32 and 35 the receiver comes back as it went in."
+/// Takes one byte (PROTOCOL 3.3). After 32 and 35 the receiver comes back as it went in.
 pub fn step(receiver: Receiver, store: &mut [u8], byte: u8) -> (Receiver, Event) {
     if let Some(number) = call_refusal(receiver, store) {
         return (receiver, Event::Refused(number));
     }
     match (receiver, byte) {
-        // "Waiting: SOI opens with count 0. Any other byte gives nothing."
+        // Waiting: SOI opens with count 0, any other byte gives nothing.
         (Receiver::Waiting, SOI) => (Receiver::Open(0), Event::Nothing),
         (Receiver::Waiting, _) => (Receiver::Waiting, Event::Nothing),
-        // "Open, SOI: refusal 2, open again with count 0."
+        // Open, SOI: 2, and open again with count 0.
         (Receiver::Open(_), SOI) => (Receiver::Open(0), Event::Refused(2)),
-        // "Open, CR: the characters are judged (3 to 8 below, in that order), then waiting."
+        // Open, CR: the characters are judged, then waiting.
         (Receiver::Open(count), CR) => match judge(&store[..count]) {
             Ok(frame) => (Receiver::Waiting, Event::Frame(frame)),
             Err(number) => (Receiver::Waiting, Event::Refused(number)),
         },
-        // "Where count is already 4,110: refusal 1, nothing stored, waiting."
+        // Open, any other byte, with count 4,110: 1, nothing is stored, then waiting.
         (Receiver::Open(MOST_CHARACTERS), _) => (Receiver::Waiting, Event::Refused(1)),
-        // "Open, any other byte: stored at place count, count one more."
+        // Open, any other byte: stored at place count, and count is one more.
         (Receiver::Open(count), _) => {
             store[count] = byte;
             (Receiver::Open(count + 1), Event::Nothing)
@@ -75,8 +75,8 @@ pub fn step(receiver: Receiver, store: &mut [u8], byte: u8) -> (Receiver, Event)
     }
 }
 
-/// "A run over a piece of the stream stops after each event that isn't nothing and says how many
-/// bytes it took, 0 with 32 or 35."
+/// A run over a piece of the stream: it stops after each event that isn't nothing, and says how many
+/// bytes it took (PROTOCOL 3.9).
 pub fn run(receiver: Receiver, store: &mut [u8], piece: &[u8]) -> Ran {
     if let Some(number) = call_refusal(receiver, store) {
         return Ran {

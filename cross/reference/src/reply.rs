@@ -1,4 +1,5 @@
-//! The reply reader: judges one stretch against the question asked and replaces the named fields.
+//! The reply reader: judges one stretch against the question asked and replaces the named fields
+//! (PROTOCOL 8).
 
 use crate::fields::{next_alarm, next_analog, next_bytes, next_limits, Fields};
 use crate::frame::{info, judge};
@@ -14,13 +15,12 @@ pub struct Question {
     pub adr: u8,
     /// The command.
     pub cid2: u8,
-    /// Its Command; "4FH and 51H have no Command; one given with the question is ignored".
+    /// Its Command; with 4FH and 51H, which have none, it is ignored (PROTOCOL 5.9).
     pub command: u8,
 }
 
-/// What the reader returns beside the table: "The reader takes any VER and returns it, with the
-/// return code, and for 51H the 32 bytes"; for 42H and 44H "the reader takes any [flag] and returns
-/// it".
+/// What the reader returns beside the table: VER, the return code, the flag of 42H and 44H, and the
+/// 32 bytes of 51H (PROTOCOL 8.12).
 #[derive(Clone, Copy, Debug, PartialEq, Eq)]
 pub struct Reply {
     /// VER.
@@ -33,8 +33,8 @@ pub struct Reply {
     pub maker: Option<[u8; 32]>,
 }
 
-/// 34: "command asked is not served, or its Command is neither ADR nor FFH at the master with 42H
-/// or 44H".
+/// 34 otherwise: the command is not served, or its Command is neither ADR nor FFH at the master with
+/// 42H or 44H (PROTOCOL 8.3).
 fn can_be_asked(question: Question) -> bool {
     match required_lenid(question.cid2) {
         None => false,
@@ -47,12 +47,12 @@ fn can_be_asked(question: Question) -> bool {
     }
 }
 
-/// 13: "return code other than 00H to 06H, 90H, 91H".
+/// 13 for any other (PROTOCOL 6.6).
 fn is_return_code(code: u8) -> bool {
     matches!(code, 0x00..=0x06 | 0x90 | 0x91)
 }
 
-/// 21: "reply's Command byte differs from the one asked (16 where that byte is missing)".
+/// 21 where Command is not the one asked, 16 where it is missing (PROTOCOL 8.5).
 fn expect_command(fields: &mut Fields, asked: u8) -> Result<(), Number> {
     if fields.next_byte()? == asked {
         Ok(())
@@ -61,7 +61,7 @@ fn expect_command(fields: &mut Fields, asked: u8) -> Result<(), Number> {
     }
 }
 
-/// 17: "bytes left over".
+/// 17 where bytes are left over (PROTOCOL 8.5).
 fn expect_end(fields: &Fields) -> Result<(), Number> {
     if fields.at_end() {
         Ok(())
@@ -70,7 +70,7 @@ fn expect_end(fields: &Fields) -> Result<(), Number> {
     }
 }
 
-/// The records of 42H or 44H for the asked module, or with FFH "records are read until INFO ends".
+/// The record of 42H or 44H for the asked module, or with FFH those until INFO ends (PROTOCOL 8.8).
 fn read_records<T>(
     fields: &mut Fields,
     group: bool,
@@ -84,22 +84,21 @@ fn read_records<T>(
     }
     let mut records = Vec::new();
     while !fields.at_end() {
-        // 17: "or a thirteenth record".
+        // 17: a thirteenth record is never read (PROTOCOL 8.8).
         if records.len() == 12 {
             return Err(17);
         }
         records.push(next(fields)?);
     }
-    // 22: "number of records differs from the members that are on"; "none at all is right only if
-    // no member is on".
+    // 22: as many records as members that are on, so none at all where none is (PROTOCOL 8.9).
     if records.len() != members_on {
         return Err(22);
     }
     Ok(records)
 }
 
-/// "A reply that was read with code 00H replaces the named fields of the asked record only; with
-/// FFH, of each member that is on, all or none."
+/// The named fields of the asked record only, or with FFH of each member that is on, all or none
+/// (PROTOCOL 8.10).
 fn replace<T>(
     lent: &mut [Module],
     place: usize,
@@ -119,8 +118,8 @@ fn replace<T>(
     }
 }
 
-/// Reads a reply to a question: "reply reader 31, 34, 23, then 1 and 3 to 8. Then 11, 12, 13, 14,
-/// 21 (16 where that byte is missing), then the record in byte order, then 17, then 22."
+/// Reads a reply to a question. Its refusals, in this order: 31, 34, 23, 1 and 3 to 8, 11, 12, 13,
+/// 14, 21 or 16, the record's in byte order, 17, 22 (PROTOCOL 8.2).
 pub fn read_reply(
     lent: &mut [Module],
     question: Question,
@@ -130,14 +129,14 @@ pub fn read_reply(
     if !can_be_asked(question) {
         return Err(34);
     }
-    // 23: "ADR asked is not in the table".
+    // 23: the ADR asked is not in the table.
     let place = table::place(lent, question.adr).ok_or(23)?;
     let frame = judge(stretch)?;
-    // 11: "reply's ADR is not the one asked".
+    // 11: the reply's ADR is not the one asked.
     if frame.header.adr != question.adr {
         return Err(11);
     }
-    // 12: "reply's CID1 is not 46H".
+    // 12: its CID1 is not 46H.
     if frame.header.cid1 != 0x46 {
         return Err(12);
     }
@@ -145,7 +144,7 @@ pub fn read_reply(
     if !is_return_code(code) {
         return Err(13);
     }
-    // 14: "INFO present with a code other than 00H".
+    // 14: INFO with a code other than 00H.
     if code != 0x00 && frame.lenid != 0 {
         return Err(14);
     }
@@ -155,7 +154,7 @@ pub fn read_reply(
         flag: None,
         maker: None,
     };
-    // "other codes change no record".
+    // Other codes change no record (PROTOCOL 8.6).
     if code != 0x00 {
         return Ok(reply);
     }
@@ -176,7 +175,7 @@ pub fn read_reply(
             let records = read_records(&mut fields, group, on, next_alarm)?;
             replace(lent, place, group, records, |m, alarm| m.alarm = alarm);
         }
-        // "51H: 10, 2 and 20 bytes."
+        // 32 bytes (PROTOCOL 9.21).
         0x51 => {
             let maker = next_bytes(&mut fields)?;
             expect_end(&fields)?;
@@ -200,7 +199,7 @@ pub fn read_reply(
             expect_end(&fields)?;
             lent[place].version = version;
         }
-        // "4FH and 95H: none."
+        // 4FH and 95H have none (PROTOCOL 9.22).
         _ => expect_end(&fields)?,
     }
     Ok(reply)

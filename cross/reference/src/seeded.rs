@@ -1,5 +1,5 @@
 //! Seeded numbers, and modules, tables, stretches and streams made from them: for tests,
-//! comparisons and captures. Nothing of the paper is decided here.
+//! comparisons and captures. Nothing of the protocol is decided here.
 
 use crate::frame::{write_frame, Header, CR, SOI};
 use crate::hex;

@@ -1,4 +1,4 @@
-//! The stand-in: it answers a command from the table as a stack of modules would.
+//! The stand-in: it answers a command from the table as a stack of modules would (PROTOCOL 7).
 
 use crate::frame::{judge, Header};
 use crate::info::GROUP;
@@ -6,13 +6,13 @@ use crate::module::{is_master, Module};
 use crate::table::{self, Station};
 use crate::{frame, hex, info, Number};
 
-/// The lent buffer's length: "stand-in 32 (4,112 bytes)".
+/// The least length of the lent buffer (PROTOCOL 7.2).
 pub const ROOM: usize = 4_112;
 
 /// What the stand-in does.
 #[derive(Clone, Copy, Debug, PartialEq, Eq)]
 pub enum Answer {
-    /// "silence: no byte written, table unchanged".
+    /// Silence: no byte is written, and the table is unchanged (PROTOCOL 7.3).
     Silence,
     /// A reply of this many bytes, from SOI to CR.
     Reply(usize),
@@ -20,7 +20,8 @@ pub enum Answer {
     Refused(Number),
 }
 
-/// "LENID is 0 for 4F and 51, otherwise 2"; none for a command that is not served.
+/// LENID of a question, 0 for 4FH and 51H, otherwise 2 (PROTOCOL 6.1); none for a command that is
+/// not served.
 pub fn required_lenid(cid2: u8) -> Option<usize> {
     match cid2 {
         0x4F | 0x51 => Some(0),
@@ -29,12 +30,12 @@ pub fn required_lenid(cid2: u8) -> Option<usize> {
     }
 }
 
-/// "FFH at the master for the whole group": with 42H or 44H.
+/// FFH may be asked at the master, with 42H or 44H (PROTOCOL 5.9).
 pub fn takes_group(adr: u8, cid2: u8) -> bool {
     is_master(adr) && (cid2 == 0x42 || cid2 == 0x44)
 }
 
-/// The return code, "the first that applies" of the eleven steps.
+/// The return code of the first of the eleven steps that applies (PROTOCOL 7.5).
 fn code(lent: &[Module], place: usize, station: &Station, stretch: &[u8]) -> u8 {
     let heard = match judge(stretch) {
         Ok(heard) => heard,
@@ -64,7 +65,7 @@ fn code(lent: &[Module], place: usize, station: &Station, stretch: &[u8]) -> u8 
     if heard.lenid != lenid {
         return 0x05;
     }
-    // "4FH and 51H have no Command"; 8 to 10 are for the commands with Command only.
+    // 4FH and 51H have no Command; 8 to 10 are for the commands with Command only.
     let Some(&command) = frame::info(stretch, heard).first() else {
         return 0x00;
     };
@@ -90,7 +91,7 @@ fn code(lent: &[Module], place: usize, station: &Station, stretch: &[u8]) -> u8 
     0x00
 }
 
-/// The data of a reply with code 00H; "the stand-in sends 00H" as flag.
+/// The data of a reply with code 00H; the flag is 00H (PROTOCOL 7.9).
 fn data(
     lent: &[Module],
     place: usize,
@@ -110,24 +111,24 @@ fn data(
         0x92 => info::write_limits(module, &mut out)?,
         0x93 => info::write_serial(module, &mut out)?,
         0x96 => info::write_version(module, &mut out)?,
-        // "4FH and 95H: none."
+        // 4FH and 95H have none.
         _ => 0,
     };
     out.truncate(length);
     Ok(out)
 }
 
-/// Answers "one stretch, the bytes between SOI and CR". Writes the reply to the lent buffer; "only
-/// an accepted 95H changes the table: that one module goes off, after its reply".
+/// Answers one stretch, the bytes between SOI and CR, and writes the reply to the lent buffer. Only
+/// an accepted 95H changes the table: that one module goes off, after its reply (PROTOCOL 7.10).
 pub fn answer(lent: &mut [Module], station: &Station, stretch: &[u8], out: &mut [u8]) -> Answer {
-    // "stand-in 32 (4,112 bytes), 31"
+    // Call refusals come first: 32, then 31 (PROTOCOL 7.2).
     if out.len() < ROOM {
         return Answer::Refused(32);
     }
     if let Err(number) = table::rule(lent) {
         return Answer::Refused(number);
     }
-    // "numbers 1, 3 and 4, and an ADR that names no member that is on, get silence"
+    // Silence for 1, 3 and 4, and for an ADR that names no member that is on (PROTOCOL 7.3).
     let judged = judge(stretch);
     if let Err(1 | 3 | 4) = judged {
         return Answer::Silence;
@@ -139,7 +140,7 @@ pub fn answer(lent: &mut [Module], station: &Station, stretch: &[u8], out: &mut 
         return Answer::Silence;
     };
     let code = code(lent, place, station, stretch);
-    // "Codes other than 00H carry no INFO."
+    // Codes other than 00H carry no INFO (PROTOCOL 7.8).
     let mut data_of_reply = Vec::new();
     let mut switches_off = false;
     if let (0x00, Ok(heard)) = (code, judged) {
@@ -151,7 +152,7 @@ pub fn answer(lent: &mut [Module], station: &Station, stretch: &[u8], out: &mut 
         }
         switches_off = cid2 == 0x95;
     }
-    // "A reply has the table's VER, the ADR received, CID1 46H, the code as CID2."
+    // The table's VER, the ADR received, CID1 46H, the code as CID2 (PROTOCOL 7.8).
     let header = Header {
         ver: station.ver,
         adr,

@@ -1,5 +1,4 @@
--- The stand-in's answer, flattened, and the place.
-use borrow.Author.Tests.{lt-ltb, le-ltb}
+-- The stand-in's answer, flattened.
 use borrow.Author.Needs.{needs}
 use Rattle.entries.proofs.Serving.{flat-serves}
 use Rattle.entries.proofs.serve.Statement.{statement}
@@ -16,21 +15,8 @@ same-length c = search needs
 
 returns : tie.Need-returns
 returns c =
-    let start = c .before .before .before .before .before .before .before .before in
-    let answer = c .before .before .before .before .answer in
-    flat-serves _ (start .args .given .count) (answer .result) (answer .last .1 .1 .1 .0) (c .before .answered .result) (answer .result .off) (answer .ensures) (c .before .answered .ensures) (rw (lt-ltb _ _ (c .if1 .taken)))
-
-same-length-2 : tie.Need-same-length-2
-same-length-2 c = search needs
-
-returns-2 : tie.Need-returns-2
-returns-2 c =
-    let start = c .before .before .before .before .before .before .before .before in
-    let given = start .args .given in
-    let answer = c .before .before .before .before .answer in
-    flat-serves _ (given .count) (answer .result) (answer .last .1 .1 .1 .0) (c .before .answered .result) (given .count) (answer .ensures) (c .before .answered .ensures) (rw (le-ltb _ _ (c .if1 .left)))
+    let answer = c .before .before .before .answer in
+    flat-serves _ (answer .result) (answer .last .1 .1 .1 .0) (c .answered .result) (answer .ensures) (c .answered .ensures)
 
 pub serve-spec : {M : Type 1} → statement M
-serve-spec =
-    tie.close
-    (tie.spec answer-requires answered-requires same-length returns same-length-2 returns-2)
+serve-spec = tie.close (tie.spec answer-requires answered-requires same-length returns)

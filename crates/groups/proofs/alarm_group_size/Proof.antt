@@ -7,12 +7,12 @@ use lib.Seq.{take-length}
 use lib.ListN.{length, take, getD, length-append}
 use Rattle.record.specs.declared.Module.{Module}
 use Rattle.groups.proofs.Texts.{all-more, all-none}
-use Rattle.groups.specs.Groups.{textOn, textOfAll, alarmText}
-use Rattle.rules.proofs.Fine.{keeps-parts, count-is, place-fine}
+use Rattle.groups.specs.Texts.{textOn, textOfAll, alarmText}
+use Rattle.table.proofs.rule.Fine.{keeps-parts, count-is, place-fine}
 use Rattle.table.proofs.Members.{nil}
 use Rattle.table.proofs.Twelve.{twelve}
 use Rattle.table.specs.Table.{members}
-use Rattle.alarm_writer.proofs.Whole.{size}
+use Rattle.alarm.proofs.writer.Whole.{size}
 use Rattle.groups.proofs.alarm_group_size.Statement.{statement}
 use Rattle.groups.proofs.alarm_group_size.Tie as tie
 

@@ -7,8 +7,8 @@ use mir.Syntax.{w8}
 use mir.Val.{Fits}
 use borrow.Author.Needs.{needs}
 use Rattle.groups.proofs.Texts.{text-on, text-off}
-use Rattle.groups.specs.Groups.{alarmText}
-use Rattle.alarm_writer.proofs.Whole.{size}
+use Rattle.groups.specs.Texts.{alarmText}
+use Rattle.alarm.proofs.writer.Whole.{size}
 use Rattle.groups.proofs.alarm_size_on.Statement.{statement}
 use Rattle.groups.proofs.alarm_size_on.Tie as tie
 

@@ -7,8 +7,8 @@ use mir.Syntax.{w8}
 use mir.Val.{Fits}
 use borrow.Author.Needs.{needs}
 use Rattle.groups.proofs.Texts.{text-on, text-off}
-use Rattle.groups.specs.Groups.{analogText}
-use Rattle.analog_writer.proofs.Whole.{size, size-small}
+use Rattle.groups.specs.Texts.{analogText}
+use Rattle.analog.proofs.writer.Whole.{size, size-small}
 use Rattle.groups.proofs.analog_size_on.Statement.{statement}
 use Rattle.groups.proofs.analog_size_on.Tie as tie
 

@@ -4,7 +4,7 @@ use mathlib.Core.Path.{sym, subst}
 use Prim.Native.Nat.{ℕ, _-_}
 use borrow.Author.Needs.{needs}
 use Rattle.groups.proofs.Texts.{text-on, text-off}
-use Rattle.groups.specs.Groups.{alarmText}
+use Rattle.groups.specs.Texts.{alarmText}
 use Rattle.buffer.proofs.Puts.{put-none}
 use Rattle.buffer.specs.Put.{Room, Put}
 use Rattle.groups.proofs.put_alarm_on.Statement.{statement}

@@ -6,8 +6,8 @@ use native.Mathlib.Omega.{arith}
 use lib.Seq.{take-length}
 use lib.ListN.{length, take, getD, length-append}
 use Rattle.groups.proofs.Texts.{all-more, all-none, first-short}
-use Rattle.groups.specs.Groups.{textOn, textOfAll, alarmText}
-use Rattle.rules.proofs.Fine.{keeps-parts, count-is, place-fine}
+use Rattle.groups.specs.Texts.{textOn, textOfAll, alarmText}
+use Rattle.table.proofs.rule.Fine.{keeps-parts, count-is, place-fine}
 use Rattle.table.proofs.Members.{nil}
 use Rattle.table.proofs.Twelve.{twelve}
 use Rattle.table.specs.Table.{members}

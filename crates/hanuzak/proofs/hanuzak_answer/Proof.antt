@@ -168,7 +168,7 @@ module _ {M : Type 1} (𝓤 : URA M) (H : Heap 𝓤) (A : Atoms 𝓤) (W : Given
         move ! (8 ∷ 9 ∷ []) $ fjoin ! $ move ! (9 ∷ 0 ∷ []) $ fjoin ! $ move ! (4 ∷ 0 ∷ []) $ fjoin ! $ move ! (8 ∷ 0 ∷ []) $ fjoin ! $ move ! (5 ∷ 6 ∷ []) $ join ! $ move ! (6 ∷ 0 ∷ []) $ join ! $
         -- [κ₁ and κ₂; station, what is loaded, stretch and out; t; κ₀; true; …; _13; …]
         asks ! fm serve.ended (serve.clauses 𝓤 H A mem run) known-serve (((κ₁, (κ₂, tt)), (q₁, (q₂, tt)), tt, (st, (l, (q, (z, tt)))), (stationVal st ∷ [], (tableVal l ∷ [], (qv ∷ [], (zv ∷ [], tt))))), tt) (id⊢ 𝓤 (emp 𝓤)) (‵ (flft κ₁ q₁) ⊛ (‵ (flft κ₂ q₂) ⊛ ‵ ftrue)) refl servedVal (LL.tells G.the-type G′.the-laws)
-        (λ r ws. Serves (answer (keeps l) st (members l) (q .now) (z .now)) (l .count) r (ws .1 .1 .1 .0)) (λ r ws. refl)
+        (λ r ws. Serves (answer (keeps l) (l .count) st (members l) (q .now) (z .now)) r (ws .1 .1 .1 .0)) (λ r ws. refl)
         (and-then ! (loads ! (from ! (stop !)) (look ! 27 refl)) (and-then ! (loads ! (from ! (stop !)) (look ! 21 refl)) (and-then ! (loads ! (from ! (stop !)) (look ! 25 refl)) (and-then ! (loads ! (from ! (stop !)) (look ! 11 refl)) (no-more !))))) (λ r ws er isr.
         land ! (from ! (stop !)) (init ! 21 refl (LL.lawful G.the-type G′.the-laws 𝓤 H A W .typed r _ isr .0)) $
         -- [κ₁ and κ₂; what is served; what is said of its last values; t; κ₀; true; …; _13; …]
@@ -185,7 +185,7 @@ module _ {M : Type 1} (𝓤 : URA M) (H : Heap 𝓤) (A : Atoms 𝓤) (W : Given
         move ! (34 ∷ 35 ∷ []) $ free1 ! $ move ! (32 ∷ 33 ∷ []) $ free1 ! $ move ! (30 ∷ 31 ∷ []) $ free1 ! $ move ! (28 ∷ 29 ∷ []) $ free1 ! $ move ! (26 ∷ 27 ∷ []) $ free1 ! $ move ! (24 ∷ 25 ∷ []) $ free1 ! $ move ! (22 ∷ 23 ∷ []) $ free1 ! $ move ! (20 ∷ 21 ∷ []) $ free1 ! $ move ! (18 ∷ 19 ∷ []) $ free1 ! $ move ! (16 ∷ 17 ∷ []) $ free1 ! $ move ! (14 ∷ 15 ∷ []) $ free1 ! $ move ! (12 ∷ 13 ∷ []) $ free1 ! $ move ! (10 ∷ 11 ∷ []) $ free1 ! $ move ! (8 ∷ 9 ∷ []) $ free1 ! $ free0 ! $
         -- [κ₀; true; what is said of the last table; κ₁ and κ₂; what is served; what is said of its last values; …]
         move ! (2 ∷ []) $ fsplit ! $ fsplit ! $ move ! (1 ∷ []) $ feqL ! (λ lt. move ! (6 ∷ []) $ fsplit ! $ drop ! $ fsplit ! $ drop ! $ fsplit ! $ drop ! $ fsplit ! $ fsplit ! $ move ! (1 ∷ []) $ feqL ! (λ lz. keep ! (4 ∷ 6 ∷ 2 ∷ 0 ∷ []) $
-        by ! (exits (r .answered) (LL.owed G.the-type G′.the-laws r (servedVal r ∷ []) isr .0) (us .0) (ws .1 .1 .1 .0) (lent-answering st ys (q .now) (z .now) r (us .0) (ws .1 .1 .1 .0) (subst (λ (k : Table). Serves (answer (keeps k) st (members k) (q .now) (z .now)) (k .count) r (ws .1 .1 .1 .0)) el er) eu) lt lz))))))))))))))))))))))
+        by ! (exits (r .answered) (LL.owed G.the-type G′.the-laws r (servedVal r ∷ []) isr .0) (us .0) (ws .1 .1 .1 .0) (lent-answering st ys (q .now) (z .now) r (us .0) (ws .1 .1 .1 .0) (subst (λ (k : Table). Serves (answer (keeps k) (k .count) st (members k) (q .now) (z .now)) r (ws .1 .1 .1 .0)) el er) eu) lt lz))))))))))))))))))))))
 
 module _ {M : Type 1} (𝓤 : URA M) (H : Heap 𝓤) (A : Atoms 𝓤) (W : Given 𝓤 H A) (mem : Memory → SProp 𝓤) (run : Routine → Fun 𝓤) (𝓣 : Tables 𝓤 H)
     (known-load : Triple 𝓤 (𝓣 .C #load) (Load 𝓤 H A mem run)) (known-serve : Triple 𝓤 (𝓣 .C #serve) (Serve 𝓤 H A mem run)) (known-off : Triple 𝓤 (𝓣 .C #off) (Off 𝓤 H A mem run)) where

@@ -39,7 +39,7 @@ use denote.Triple.Walked.{says, Stays, stay-dropped, gave-slice, walkOf, goes-dr
 use denote.Exit.{yes}
 use Rattle.record.specs.declared.Module.{Module}
 use Rattle.table.specs.Table.{blank}
-use Rattle.changes.specs.Changes.{switchedOff}
+use Rattle.table.specs.Changes.{switchedOff}
 use Rattle.standin.specs.Answer.{offAt}
 use Rattle.lent.proofs.Rows.{offset-fits, set-past, settles}
 use Rattle.record.proofs.Module as T

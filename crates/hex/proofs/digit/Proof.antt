@@ -1,6 +1,6 @@
 -- The definition's own sum, which fits in a byte.
 use borrow.Author.Needs.{needs}
-use Rattle.hex.specs.Hex.{digitOf}
+use Rattle.hex.proofs.Laws.{reckoned}
 use Rattle.hex.proofs.digit.Statement.{statement}
 use Rattle.hex.proofs.digit.Tie as tie
 
@@ -11,8 +11,7 @@ add-result : tie.Need-add-result
 add-result c = search needs
 
 returns : tie.Need-returns
-unfolding digitOf
-returns c = search needs
+returns c = reckoned (c .args .c) (search needs)
 
 pub digit-spec : {M : Type 1} → statement M
 digit-spec = tie.close (tie.spec mul-result add-result returns)

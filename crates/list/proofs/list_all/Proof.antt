@@ -1,28 +1,44 @@
--- One turn less is left after each.
-use mathlib.Core.Path.{_≡_}
-use Prim.Native.Nat.{_-_}
+-- What was read so far is listed, and less is left after each turn that goes on.
+use mathlib.Core.Path.{_≡_, refl, sym, ap, _∙_, subst}
+use mathlib.Core.Bool.{true, false, not}
+use mathlib.Core.List.{List, []}
+use Prim.Native.Nat.{ℕ, _-_, _≤_, _<_}
+use native.Mathlib.Omega.{arith}
 use lib.ListN.{length}
 use borrow.Author.Needs.{needs}
+use borrow.Author.Tests.{not-true, not-false}
+use Rattle.listing.specs.declared.Listing.{Listing}
+use Rattle.listing.specs.Piece.{fresh, left}
+use Rattle.list.specs.List.{Over, goesOn}
+use Rattle.list.proofs.Over.{over-none, turn-less, turned, goes-on-more}
 use Rattle.list.proofs.list_all.Statement.{statement}
 use Rattle.list.proofs.list_all.Tie as tie
 
 abbrev Inv-loop : tie.InvT-loop
-Inv-loop buffer₀ store₀ out₀ now₀ turns₀ buffer store out now turns = (length buffer ≡ length buffer₀) × (length store ≡ length store₀) × (length out ≡ length out₀)
+Inv-loop buffer₀ store₀ out₀ now₀ buffer store out now =
+    (length buffer ≡ length buffer₀) × (length store ≡ length store₀) × (length out ≡ length out₀) × (0 < left now) × ((bytes : List ℕ) × (length bytes ≤ 1073741824) × Over fresh store₀ bytes now store [])
 
 abbrev μ-loop : tie.MeasureT-loop
-μ-loop buffer₀ store₀ out₀ now₀ turns₀ buffer store out now turns = turns
+μ-loop buffer₀ store₀ out₀ now₀ buffer store out now = left now
 
 new-requires : tie.Need-new-requires Inv-loop μ-loop
 new-requires c κs = search needs
 
 loop-holds : tie.Need-loop-holds Inv-loop μ-loop
-loop-holds c = search needs
+loop-holds c =
+    let store = c .before .before .before .before .args .store .now in (
+      refl,
+      refl,
+      refl,
+      omega (arith, ap left (c .new .ensures)),
+      ([], omega arith, subst (λ (l : Listing). Over fresh store [] l store []) (sym (c .new .ensures)) (over-none fresh store [])),
+    )
 
 read-turn-requires : tie.Need-read-turn-requires Inv-loop μ-loop
-read-turn-requires c κs = search needs
+read-turn-requires c κs = let loop = c .before .before .before .loop in (loop .inv .3, omega (arith, loop .inv .0, c .before .before .before .before .before .before .before .before .pre))
 
-is-more-requires : tie.Need-is-more-requires Inv-loop μ-loop
-is-more-requires c κs = search needs
+goes-on-requires : tie.Need-goes-on-requires Inv-loop μ-loop
+goes-on-requires c κs = search needs
 
 same-length : tie.Need-same-length Inv-loop μ-loop
 same-length c = search needs
@@ -34,28 +50,40 @@ same-length-3 : tie.Need-same-length-3 Inv-loop μ-loop
 same-length-3 c = search needs
 
 returns : tie.Need-returns Inv-loop μ-loop
-returns c = search needs
+returns c =
+    let start = c .before .before .before .before .before .before .before .before .before .before .before .before .before .before .before .before .before in
+    let loop = c .before .before .before .before .before .before .before .before .before .before .before .before .loop in
+    let turn = c .before .before .before .before .before .before .before .before .read-turn in
+    let sofar = loop .inv .4 in
+    record {
+      sofar = turned (loop .now) (turn .result) (loop .store) (turn .last .1 .1 .0) (turn .last .1 .0) (turn .ensures) (start .args .store .now) (sofar .0) (sofar .1) (sofar .2);
+      over = sym (c .before .goes-on .ensures) ∙ not-true (c .before .goes-on .result) (c .if1 .taken);
+    }
 
-sub-turns : tie.Need-sub-turns Inv-loop μ-loop
-sub-turns c = search needs
+-- the turn goes on
+goes : (c : tie.After-goes-on Inv-loop μ-loop) → not (c .goes-on .result) ≡ false → goesOn (c .before .before .before .before .before .before .before .read-turn .result) ≡ true
+goes c e = sym (c .goes-on .ensures) ∙ not-false (c .goes-on .result) e
 
 loop-less : tie.Need-loop-less Inv-loop μ-loop
-loop-less c = search needs
+loop-less c =
+    let loop = c .before .before .before .before .before .before .before .before .before .before .before .before .before .loop in
+    let turn = c .before .before .before .before .before .before .before .before .before .read-turn in
+    turn-less (loop .now) (turn .result) (loop .store) (turn .last .1 .1 .0) (turn .last .1 .0) (turn .ensures) (goes (c .before .before) (c .before .if1 .left))
 
 loop-again : tie.Need-loop-again Inv-loop μ-loop
-loop-again c = search needs
-
-same-length-4 : tie.Need-same-length-4 Inv-loop μ-loop
-same-length-4 c = search needs
-
-same-length-5 : tie.Need-same-length-5 Inv-loop μ-loop
-same-length-5 c = search needs
-
-same-length-6 : tie.Need-same-length-6 Inv-loop μ-loop
-same-length-6 c = search needs
-
-returns-2 : tie.Need-returns-2 Inv-loop μ-loop
-returns-2 c = search needs
+loop-again c =
+    let start = c .before .before .before .before .before .before .before .before .before .before .before .before .before .before .before .before .before .before in
+    let loop = c .before .before .before .before .before .before .before .before .before .before .before .before .before .loop in
+    let turn = c .before .before .before .before .before .before .before .before .before .read-turn in
+    let sofar = loop .inv .4 in
+    let more = goes-on-more (turn .result) (goes (c .before .before) (c .before .if1 .left)) in
+    let s = turned (loop .now) (turn .result) (loop .store) (turn .last .1 .1 .0) (turn .last .1 .0) (turn .ensures) (start .args .store .now) (sofar .0) (sofar .1) (sofar .2) in (
+      turn .kept .1 .0 ∙ loop .inv .0,
+      turn .kept .1 .1 .0 ∙ loop .inv .1,
+      turn .kept .1 .1 .1 .0 ∙ loop .inv .2,
+      more .1,
+      (s .bytes, s .few, subst (λ (x : List ℕ). Over fresh (start .args .store .now) (s .bytes) (turn .result .next) x []) (s .same (more .0)) (s .listed)),
+    )
 
 pub list-all-spec : {M : Type 1} → statement M
 list-all-spec =
@@ -66,15 +94,10 @@ list-all-spec =
     new-requires
     loop-holds
     read-turn-requires
-    is-more-requires
+    goes-on-requires
     same-length
     same-length-2
     same-length-3
     returns
-    sub-turns
     loop-less
-    loop-again
-    same-length-4
-    same-length-5
-    same-length-6
-    returns-2)
+    loop-again)

@@ -1,7 +1,7 @@
--- No more bytes are taken than the piece has, and the text lies within the buffer.
+-- What is handed on is the answer of `list`, whose text lies within the buffer.
 use Prim.Native.Nat.{_-_}
 use borrow.Author.Needs.{needs}
-use Rattle.listing.proofs.Parts.{lists-few, lists-inside}
+use Rattle.listing.proofs.Parts.{lists-inside}
 use Rattle.list.proofs.list_part.Statement.{statement}
 use Rattle.list.proofs.list_part.Tie as tie
 
@@ -10,9 +10,12 @@ list-requires c κs = search needs
 
 write-text-requires : tie.Need-write-text-requires
 write-text-requires c κs =
-    let start = c .before .before .before .before .before .before .before .before .before .before .before .before in
-    let list = c .before .before .before .before .before .before .list in
+    let start = c .before .before .before .before .before .before .before .before .before .before .before in
+    let list = c .before .before .before .before .before .list in
     lists-inside (start .args .l) (start .args .store .now) (start .args .piece .now) (start .args .out .now) (list .result) (list .last .1 .0) (list .last .1 .1 .1 .0) (list .ensures)
+
+part-of-requires : tie.Need-part-of-requires
+part-of-requires c κs = search needs
 
 same-length : tie.Need-same-length
 same-length c = search needs
@@ -22,28 +25,10 @@ same-length-2 c = search needs
 
 returns : tie.Need-returns
 returns c =
-    let start = c .before .before .before .before .before .before .before .before .before .before .before .before .before .before in
-    let list = c .before .before .before .before .before .before .before .before .list in
-    lists-few (start .args .l) (start .args .store .now) (start .args .piece .now) (start .args .out .now) (list .result) (list .last .1 .0) (list .last .1 .1 .1 .0) (list .ensures)
-
-same-length-3 : tie.Need-same-length-3
-same-length-3 c = search needs
-
-same-length-4 : tie.Need-same-length-4
-same-length-4 c = search needs
-
-returns-2 : tie.Need-returns-2
-returns-2 c = search needs
+    let list = c .before .before .before .before .before .before .before .list in
+    record { answer = list .result; lists = list .ensures; written = c .before .write-text .result; handed = c .part-of .ensures }
 
 pub list-part-spec : {M : Type 1} → statement M
 list-part-spec =
     tie.close
-    (tie.spec
-    list-requires
-    write-text-requires
-    same-length
-    same-length-2
-    returns
-    same-length-3
-    same-length-4
-    returns-2)
+    (tie.spec list-requires write-text-requires part-of-requires same-length same-length-2 returns)

@@ -1,10 +1,16 @@
--- What was read lies at the front of the buffer.
-use mathlib.Core.Path.{sym}
-use Prim.Native.Nat.{_-_}
+-- The read is one of no more than is left and than the buffer holds, and what it gave is listed.
+use mathlib.Core.Path.{sym, _∙_, subst}
+use mathlib.Core.List.{_++_}
+use Prim.Native.Nat.{_-_, _≤_, min}
 use native.Mathlib.Omega.{arith}
 use lib.Seq.{length-take-le}
-use lib.ListN.{drop, length-append}
+use lib.ListN.{length, take, drop, length-append, length-drop}
+use mir.Syntax.{w64}
+use mir.Facts.{toZ-ofZ}
 use borrow.Author.Needs.{needs}
+use Rattle.libc.specs.Io.{Moved}
+use Rattle.listing.specs.Piece.{left as leftOf}
+use Rattle.list.proofs.Answers.{moved-more}
 use Rattle.list.proofs.read_turn.Statement.{statement}
 use Rattle.list.proofs.read_turn.Tie as tie
 
@@ -17,55 +23,40 @@ cast-least c = search needs
 least-requires : tie.Need-least-requires
 least-requires c κs = search needs
 
-slice-relend-prefix-read-some : tie.Need-slice-relend-prefix-read-some
-slice-relend-prefix-read-some c = search needs
+slice-relend-prefix-read : tie.Need-slice-relend-prefix-read
+slice-relend-prefix-read c = search needs
 
-slice-aggregate-read-some : tie.Need-slice-aggregate-read-some
-slice-aggregate-read-some c = sym (length-take-le _ _ (c .before .least .ensures .1))
+slice-aggregate-read : tie.Need-slice-aggregate-read
+slice-aggregate-read c = sym (length-take-le _ _ (omega (arith, c .before .least .ensures)))
 
-read-some-requires : tie.Need-read-some-requires
-read-some-requires c κs = search needs
+read-requires : tie.Need-read-requires
+read-requires c κs = search needs
+
+list-got-requires : tie.Need-list-got-requires
+list-got-requires c κs = search needs
 
 same-length : tie.Need-same-length
 same-length c = search needs
 
-returns : tie.Need-returns
-returns c = search needs
-
 same-length-2 : tie.Need-same-length-2
 same-length-2 c = search needs
-
-returns-2 : tie.Need-returns-2
-returns-2 c = search needs
-
-slice-reshare-prefix-list-piece : tie.Need-slice-reshare-prefix-list-piece
-slice-reshare-prefix-list-piece c =
-    let start = c .before .before .before .before .before .before .before .before .before .before .before .before in
-    let least = c .before .before .before .before .before .before .before .least in
-    let read-some = c .before .before .before .before .before .read-some in
-    omega (arith, read-some .ensures, length-append (read-some .last .0) (drop (least .result) (start .args .buffer .now)))
-
-slice-aggregate-list-piece : tie.Need-slice-aggregate-list-piece
-slice-aggregate-list-piece c =
-    let start = c .before .before .before .before .before .before .before .before .before .before .before .before .before in
-    let least = c .before .before .before .before .before .before .before .before .least in
-    let read-some = c .before .before .before .before .before .before .read-some in
-    sym (length-take-le _ _ (omega (arith, read-some .ensures, length-append (read-some .last .0) (drop (least .result) (start .args .buffer .now)))))
-
-list-piece-requires : tie.Need-list-piece-requires
-list-piece-requires c κs = search needs
 
 same-length-3 : tie.Need-same-length-3
 same-length-3 c = search needs
 
-same-length-4 : tie.Need-same-length-4
-same-length-4 c = search needs
-
-same-length-5 : tie.Need-same-length-5
-same-length-5 c = search needs
-
-returns-3 : tie.Need-returns-3
-returns-3 c = search needs
+returns : tie.Need-returns
+returns c =
+    let start = c .before .before .before .before .before .before .before .before .before .before .before .before .before .before .before .before .before in
+    let left = c .before .before .before .before .before .before .before .before .before .before .before .before .before .left in
+    let least = c .before .before .before .before .before .before .before .before .before .before .before .before .least in
+    let read = c .before .before .before .before .before .before .before .before .before .before .read in
+    let got = c .before .before .before .before .list-got in
+    let buffer = start .args .buffer .now in
+    let after = read .last .1 .0 ++ drop (least .result) buffer in
+    let few : length (take (least .result) buffer) ≤ min (leftOf (start .args .l)) (length after) =
+    omega (arith, read .kept, left .ensures, least .ensures, length-take-le (least .result) buffer (omega (arith, least .ensures)), length-append (read .last .1 .0) (drop (least .result) buffer), length-drop (least .result) buffer) in
+    let same = got .ensures .0 ∙ toZ-ofZ {w = w64} {z = read .result} (search needs) in
+    (subst (Moved (min (leftOf (start .args .l)) (length after))) (sym same) (moved-more (read .result) (length (take (least .result) buffer)) (min (leftOf (start .args .l)) (length after)) few (read .ensures)), got .ensures .1)
 
 pub read-turn-spec : {M : Type 1} → statement M
 read-turn-spec =
@@ -74,17 +65,11 @@ read-turn-spec =
     left-requires
     cast-least
     least-requires
-    slice-relend-prefix-read-some
-    slice-aggregate-read-some
-    read-some-requires
+    slice-relend-prefix-read
+    slice-aggregate-read
+    read-requires
+    list-got-requires
     same-length
-    returns
     same-length-2
-    returns-2
-    slice-reshare-prefix-list-piece
-    slice-aggregate-list-piece
-    list-piece-requires
     same-length-3
-    same-length-4
-    same-length-5
-    returns-3)
+    returns)

@@ -5,7 +5,7 @@ use Prim.Native.Nat.{ℕ, _-_}
 use native.Mathlib.Omega.{arith}
 use borrow.Author.Needs.{needs}
 use Rattle.texts.proofs.Texts.{refusal-short, lines-one}
-use Rattle.listing.specs.Piece.{Stands}
+use Rattle.listing.specs.Within.{Stands}
 use Rattle.texts.specs.Block.{frameBlock, refusalBlock, lines, blockOf}
 use Rattle.receiver.specs.declared.Event.the-variants.{Frame}
 use Rattle.receiver.specs.declared.Event.{Event}

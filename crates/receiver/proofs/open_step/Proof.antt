@@ -1,8 +1,10 @@
 -- The rows of an open receiver.
-use mathlib.Core.Path.{sym, _∙_}
+use mathlib.Core.Path.{sym, ap, _∙_}
 use native.Mathlib.Omega.{arith}
 use lib.Seq.{length-take-le}
 use borrow.Author.Needs.{needs}
+use Rattle.receiver.specs.declared.Receiver.{Receiver}
+use Rattle.receiver.specs.Step.{gives, paper}
 use Rattle.receiver.proofs.Rows.{row-again, row-judged, row-full, row-more}
 use Rattle.receiver.proofs.open_step.Statement.{statement}
 use Rattle.receiver.proofs.open_step.Tie as tie
@@ -10,8 +12,8 @@ use Rattle.receiver.proofs.open_step.Tie as tie
 slice-write-store : tie.Need-slice-write-store
 slice-write-store c = search needs
 
-add-t9 : tie.Need-add-t9
-add-t9 c = search needs
+add-more : tie.Need-add-more
+add-more c = search needs
 
 same-length : tie.Need-same-length
 same-length c = search needs
@@ -35,8 +37,8 @@ slice-aggregate-judge c = sym (length-take-le _ _ (omega arith))
 judge-requires : tie.Need-judge-requires
 judge-requires c κs = search needs
 
-event-of-requires : tie.Need-event-of-requires
-event-of-requires c κs = search needs
+closed-requires : tie.Need-closed-requires
+closed-requires c κs = search needs
 
 same-length-2 : tie.Need-same-length-2
 same-length-2 c = search needs
@@ -44,7 +46,10 @@ same-length-2 c = search needs
 returns-3 : tie.Need-returns-3
 returns-3 c =
     let start = c .before .before .before .before .before .before in
-    row-judged (start .args .store .now) (start .args .byte) (start .pre .0) (start .args .count) (start .pre .1) _ (c .event-of .ensures ∙ c .before .judge .ensures) (c .before .before .before .if2 .left)
+    let after = c .closed .ensures in
+    let judged = after .1 ∙ c .before .judge .ensures in
+    ap (λ (r : Receiver). gives r (start .args .store .now) (paper (c .closed .result .event))) (after .0)
+    ∙ row-judged (start .args .store .now) (start .args .byte) (start .pre .0) (start .args .count) (start .pre .1) _ judged (c .before .before .before .if2 .left)
 
 returns-4 : tie.Need-returns-4
 returns-4 c =
@@ -56,14 +61,14 @@ open-step-spec =
     tie.close
     (tie.spec
     slice-write-store
-    add-t9
+    add-more
     same-length
     returns
     returns-2
     slice-reshare-prefix-judge
     slice-aggregate-judge
     judge-requires
-    event-of-requires
+    closed-requires
     same-length-2
     returns-3
     returns-4)

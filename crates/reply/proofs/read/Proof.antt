@@ -6,7 +6,7 @@ use borrow.Author.Needs.{needs}
 use Rattle.reply.proofs.Ways.{way-broken, way-refused, way-open}
 use Rattle.reply.proofs.Taking.{not-read}
 use Rattle.reply.specs.Read.{readReply, Reads}
-use Rattle.gate.specs.Gate.{paper}
+use Rattle.reply.specs.Gate.{paper}
 use Rattle.command.specs.Heard.{wordsOf}
 use Rattle.table.specs.Rule.{keeps}
 use Rattle.table.specs.Table.{members}

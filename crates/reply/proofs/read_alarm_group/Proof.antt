@@ -5,10 +5,10 @@ use borrow.Author.Needs.{needs}
 use Rattle.reply.proofs.Taking.{alarms-few, all-refused, all-differ, all-read}
 use Rattle.reply.specs.Read.{took, given, Reads}
 use Rattle.command.specs.declared.Kind.{Kind}
-use Rattle.changes.specs.Changes.{withAlarm}
+use Rattle.table.specs.Changes.{withAlarm}
 use Rattle.table.specs.Table.{members}
 use Rattle.record.specs.Infos.{alarmGroup}
-use Rattle.alarm_reader.specs.Nothing.{noAlarm}
+use Rattle.record.specs.Nothing.{noAlarm}
 use Rattle.hex.specs.Hex.{unhexes}
 use Rattle.reply.proofs.read_alarm_group.Statement.{statement}
 use Rattle.reply.proofs.read_alarm_group.Tie as tie

@@ -5,12 +5,12 @@ use borrow.Author.Needs.{needs}
 use Rattle.reply.proofs.Taking.{one-refused, one-read}
 use Rattle.reply.specs.Read.{took, given, Reads}
 use Rattle.command.specs.declared.Kind.{Kind}
-use Rattle.changes.specs.Changes.{replaced, withAnalog}
+use Rattle.table.specs.Changes.{replaced, withAnalog}
 use Rattle.table.specs.Table.{members}
-use Rattle.infos.specs.Nothing.{noMaker}
-use Rattle.infos.specs.Took.{flagged}
+use Rattle.record.specs.Nothing.{noMaker}
+use Rattle.parts.specs.Took.{flagged}
 use Rattle.record.specs.Infos.{analogInfo}
-use Rattle.analog_reader.specs.Nothing.{noAnalog}
+use Rattle.record.specs.Nothing.{noAnalog}
 use Rattle.hex.specs.Hex.{unhexes}
 use Rattle.reply.proofs.read_analog.Statement.{statement}
 use Rattle.reply.proofs.read_analog.Tie as tie

@@ -5,10 +5,10 @@ use borrow.Author.Needs.{needs}
 use Rattle.reply.proofs.Taking.{analogs-few, all-refused, all-differ, all-read}
 use Rattle.reply.specs.Read.{took, given, Reads}
 use Rattle.command.specs.declared.Kind.{Kind}
-use Rattle.changes.specs.Changes.{withAnalog}
+use Rattle.table.specs.Changes.{withAnalog}
 use Rattle.table.specs.Table.{members}
 use Rattle.record.specs.Infos.{analogGroup}
-use Rattle.analog_reader.specs.Nothing.{noAnalog}
+use Rattle.record.specs.Nothing.{noAnalog}
 use Rattle.hex.specs.Hex.{unhexes}
 use Rattle.reply.proofs.read_analog_group.Statement.{statement}
 use Rattle.reply.proofs.read_analog_group.Tie as tie

@@ -5,12 +5,11 @@ use borrow.Author.Needs.{needs}
 use Rattle.reply.proofs.Taking.{one-refused, one-read}
 use Rattle.reply.specs.Read.{took, given, Reads}
 use Rattle.command.specs.declared.Kind.{Kind}
-use Rattle.changes.specs.Changes.{replaced, withLimits}
+use Rattle.table.specs.Changes.{replaced, withLimits}
 use Rattle.table.specs.Table.{members}
-use Rattle.infos.specs.Nothing.{noMaker}
-use Rattle.infos.specs.Took.{unflagged}
+use Rattle.record.specs.Nothing.{noMaker, noLimits}
+use Rattle.parts.specs.Took.{unflagged}
 use Rattle.record.specs.Infos.{limitsInfo}
-use Rattle.readers.specs.Nothing.{noLimits}
 use Rattle.hex.specs.Hex.{unhexes}
 use Rattle.reply.proofs.read_limits.Statement.{statement}
 use Rattle.reply.proofs.read_limits.Tie as tie

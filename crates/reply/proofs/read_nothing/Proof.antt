@@ -5,8 +5,9 @@ use borrow.Author.Needs.{needs}
 use Rattle.reply.proofs.Taking.{one-refused, one-read}
 use Rattle.reply.specs.Read.{tookNothing, given, Reads}
 use Rattle.table.specs.Table.{members}
-use Rattle.infos.specs.Nothing.{nothing, noMaker}
-use Rattle.infos.specs.Took.{bare}
+use Rattle.record.specs.Infos.{emptyInfo}
+use Rattle.record.specs.Nothing.{noMaker}
+use Rattle.parts.specs.Took.{bare}
 use Rattle.hex.specs.Hex.{unhexes}
 use Rattle.reply.proofs.read_nothing.Statement.{statement}
 use Rattle.reply.proofs.read_nothing.Tie as tie
@@ -33,7 +34,7 @@ returns c =
     let table = start .args .table in
     let info = start .args .info .now in
     let take-nothing = c .before .before .before .before .take-nothing in
-    subst (Reads (given ver (members table) (tookNothing (members table) (unhexes info))) table) (sym (c .not-read .ensures)) (one-refused tt bare (nothing .get (unhexes info)) (take-nothing .result) tt (take-nothing .ensures) ver table (λ a. (noMaker, (members table))) (c .before .before .taken .given .0 .0) (c .before .before .taken .given .1))
+    subst (Reads (given ver (members table) (tookNothing (members table) (unhexes info))) table) (sym (c .not-read .ensures)) (one-refused tt bare (emptyInfo .get (unhexes info)) (take-nothing .result) tt (take-nothing .ensures) ver table (λ a. (noMaker, (members table))) (c .before .before .taken .given .0 .0) (c .before .before .taken .given .1))
 
 returns-2 : tie.Need-returns-2
 returns-2 c =
@@ -42,7 +43,7 @@ returns-2 c =
     let table = start .args .table in
     let info = start .args .info .now in
     let take-nothing = c .before .before .before .before .take-nothing in
-    subst (Reads (given ver (members table) (tookNothing (members table) (unhexes info))) table) (sym (c .was-read .ensures)) (one-read tt bare (nothing .get (unhexes info)) (take-nothing .result) tt (take-nothing .ensures) ver table (λ a. (noMaker, (members table))) (c .before .before .taken2 .given .0 .0) (c .before .before .taken2 .given .1) noMaker table refl (refl, refl))
+    subst (Reads (given ver (members table) (tookNothing (members table) (unhexes info))) table) (sym (c .was-read .ensures)) (one-read tt bare (emptyInfo .get (unhexes info)) (take-nothing .result) tt (take-nothing .ensures) ver table (λ a. (noMaker, (members table))) (c .before .before .taken2 .given .0 .0) (c .before .before .taken2 .given .1) noMaker table refl (refl, refl))
 
 pub read-nothing-spec : {M : Type 1} → statement M
 read-nothing-spec =

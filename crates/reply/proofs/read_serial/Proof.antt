@@ -5,12 +5,11 @@ use borrow.Author.Needs.{needs}
 use Rattle.reply.proofs.Taking.{one-refused, one-read}
 use Rattle.reply.specs.Read.{took, given, Reads}
 use Rattle.command.specs.declared.Kind.{Kind}
-use Rattle.changes.specs.Changes.{replaced, withSerial}
+use Rattle.table.specs.Changes.{replaced, withSerial}
 use Rattle.table.specs.Table.{members}
-use Rattle.infos.specs.Nothing.{noMaker}
-use Rattle.infos.specs.Took.{unflagged}
+use Rattle.record.specs.Nothing.{noMaker, noSerial}
+use Rattle.parts.specs.Took.{unflagged}
 use Rattle.record.specs.Infos.{serialInfo}
-use Rattle.readers.specs.Nothing.{noSerial}
 use Rattle.hex.specs.Hex.{unhexes}
 use Rattle.reply.proofs.read_serial.Statement.{statement}
 use Rattle.reply.proofs.read_serial.Tie as tie

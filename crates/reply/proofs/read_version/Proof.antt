@@ -5,12 +5,11 @@ use borrow.Author.Needs.{needs}
 use Rattle.reply.proofs.Taking.{one-refused, one-read}
 use Rattle.reply.specs.Read.{took, given, Reads}
 use Rattle.command.specs.declared.Kind.{Kind}
-use Rattle.changes.specs.Changes.{replaced, withVersion}
+use Rattle.table.specs.Changes.{replaced, withVersion}
 use Rattle.table.specs.Table.{members}
-use Rattle.infos.specs.Nothing.{noMaker}
-use Rattle.infos.specs.Took.{unflagged}
+use Rattle.record.specs.Nothing.{noMaker, noVersion}
+use Rattle.parts.specs.Took.{unflagged}
 use Rattle.record.specs.Infos.{versionInfo}
-use Rattle.readers.specs.Nothing.{noVersion}
 use Rattle.hex.specs.Hex.{unhexes}
 use Rattle.reply.proofs.read_version.Statement.{statement}
 use Rattle.reply.proofs.read_version.Tie as tie

@@ -1,9 +1,10 @@
 -- The two call refusals, then silence or the reply.
-use mathlib.Core.Path.{sym, _∙_}
+use mathlib.Core.Path.{sym, ap, _∙_}
 use borrow.Author.Tests.{not-true, not-false}
 use borrow.Author.Needs.{needs}
 use Rattle.standin.proofs.Replies.{answer-short, answer-broken, answer-says, says-silent}
 use Rattle.command.specs.Heard.{wordsOf}
+use Rattle.standin.specs.Says.{paper}
 use Rattle.table.specs.Rule.{keeps}
 use Rattle.table.specs.Table.{members}
 use Rattle.standin.proofs.answer.Statement.{statement}
@@ -13,7 +14,7 @@ returns : tie.Need-returns
 returns c =
     let start = c .before .before .before in
     let table = start .args .table in
-    answer-short (keeps table) (start .args .station) (members table) (start .args .stretch .now) (start .args .out .now) (c .if1 .taken)
+    answer-short (keeps table) (table .count) (start .args .station) (members table) (start .args .stretch .now) (start .args .out .now) (c .if1 .taken)
 
 keeps-rule-requires : tie.Need-keeps-rule-requires
 keeps-rule-requires c κs = search needs
@@ -22,7 +23,7 @@ returns-2 : tie.Need-returns-2
 returns-2 c =
     let start = c .before .before .before .before .before in
     let table = start .args .table in
-    answer-broken (keeps table) (start .args .station) (members table) (start .args .stretch .now) (start .args .out .now) (c .before .before .if1 .left) (sym (c .before .keeps-rule .ensures) ∙ not-true (c .before .keeps-rule .result) (c .if2 .taken))
+    answer-broken (keeps table) (table .count) (start .args .station) (members table) (start .args .stretch .now) (start .args .out .now) (c .before .before .if1 .left) (sym (c .before .keeps-rule .ensures) ∙ not-true (c .before .keeps-rule .result) (c .if2 .taken))
 
 hear-requires : tie.Need-hear-requires
 hear-requires c κs = search needs
@@ -41,7 +42,7 @@ reply-requires c κs =
     let if1 = c .before .before .before .before .before .before .before .before .if1 in
     let keeps-rule = c .before .before .before .before .before .before .before .keeps-rule in
     let if2 = c .before .before .before .before .before .before .if2 in
-    ((sym (keeps-rule .ensures) ∙ not-false (keeps-rule .result) (if2 .left)), sym (c .before .before .before .before .decide .ensures) ∙ c .before .before .said .given .1, if1 .left)
+    ((sym (keeps-rule .ensures) ∙ not-false (keeps-rule .result) (if2 .left)), sym (c .before .before .before .before .decide .ensures) ∙ ap paper (c .before .before .said .given .1), if1 .left)
 
 returns-3 : tie.Need-returns-3
 returns-3 c =
@@ -52,7 +53,7 @@ returns-3 c =
     let if1 = c .before .before .before .before .before .before .if1 in
     let keeps-rule = c .before .before .before .before .before .keeps-rule in
     let hear = c .before .before .before .hear in
-    says-silent station (members table) (wordsOf (hear .result)) out ∙ answer-says (keeps table) station (members table) (start .args .stretch .now) out (if1 .left) (sym (keeps-rule .ensures) ∙ not-false (keeps-rule .result) (c .before .before .before .before .if2 .left)) (wordsOf (hear .result)) (hear .ensures) _ (sym (c .enum-told .given .1) ∙ (c .before .before .decide .ensures))
+    says-silent (table .count) station (members table) (wordsOf (hear .result)) out ∙ answer-says (keeps table) (table .count) station (members table) (start .args .stretch .now) out (if1 .left) (sym (keeps-rule .ensures) ∙ not-false (keeps-rule .result) (c .before .before .before .before .if2 .left)) (wordsOf (hear .result)) (hear .ensures) _ (ap paper (sym (c .enum-told .given .1)) ∙ (c .before .before .decide .ensures))
 
 same-length : tie.Need-same-length
 same-length c = search needs
@@ -67,7 +68,7 @@ returns-4 c =
     let hear = c .before .before .before .before .before .before .before .before .hear in
     let the-decide = c .before .before .before .before .before .before .before .decide in
     let said = c .before .before .before .before .before .said in
-    c .before .before .reply .ensures ∙ answer-says (keeps table) (start .args .station) (members table) (start .args .stretch .now) (start .args .out .now) (if1 .left) (sym (keeps-rule .ensures) ∙ not-false (keeps-rule .result) (if2 .left)) (wordsOf (hear .result)) (hear .ensures) _ (sym (said .given .1) ∙ (the-decide .ensures))
+    c .before .before .reply .ensures ∙ answer-says (keeps table) (table .count) (start .args .station) (members table) (start .args .stretch .now) (start .args .out .now) (if1 .left) (sym (keeps-rule .ensures) ∙ not-false (keeps-rule .result) (if2 .left)) (wordsOf (hear .result)) (hear .ensures) _ (ap paper (sym (said .given .1)) ∙ (the-decide .ensures))
 
 pub answer-spec : {M : Type 1} → statement M
 answer-spec =

@@ -9,7 +9,7 @@ use Rattle.standin.proofs.Filled.{filled, analog-filled, alarm-filled, 
 use Rattle.standin.proofs.Maker.{maker-length}
 use Rattle.standin.specs.Answer.{infoBy}
 use Rattle.command.specs.declared.Kind.{Kind}
-use Rattle.rules.proofs.Fine.{keeps-parts}
+use Rattle.table.proofs.rule.Fine.{keeps-parts}
 use Rattle.table.specs.Rule.{keeps}
 use Rattle.table.specs.Table.{members}
 use Rattle.buffer.specs.Writing.{Writes}

@@ -33,15 +33,15 @@ element-copy-out-member c =
     let t1 = start .args .t1 in
     omega (arith, at-most-twelve t1 (twelve t1 _ (start .good .0)), c .before .before .size .ensures)
 
-one-requires : tie.Need-one-requires Inv-loop μ-loop
-one-requires c κs = tt
+one-if-requires : tie.Need-one-if-requires Inv-loop μ-loop
+one-if-requires c κs = tt
 
 add-on : tie.Need-add-on Inv-loop μ-loop
 add-on c =
     let start = c .before .before .before .before .before .before in
     let t1 = start .args .t1 in
     let size = c .before .before .before .before .before .size in
-    omega (arith, one-small (isOn (getD (t1 .modules) (c .before .before .before .before .loop .i) nil)) (c .one .ensures), at-most-twelve t1 (twelve t1 _ (start .good .0)), size .ensures)
+    omega (arith, one-small (isOn (getD (t1 .modules) (c .before .before .before .before .loop .i) nil)) (c .one-if .ensures), at-most-twelve t1 (twelve t1 _ (start .good .0)), size .ensures)
 
 add-i : tie.Need-add-i Inv-loop μ-loop
 add-i c =
@@ -63,7 +63,7 @@ loop-again c =
     let t1 = start .args .t1 in
     let size = c .before .before .before .before .before .size in
     let loop = c .before .before .before .before .loop in
-    (omega arith, omega (arith, one-small (isOn (getD (t1 .modules) (loop .i) nil)) (c .one .ensures)), omega (arith, c .one .ensures, on-turn t1 (loop .i) (omega (arith, size .ensures)), loop .inv .2))
+    (omega arith, omega (arith, one-small (isOn (getD (t1 .modules) (loop .i) nil)) (c .one-if .ensures)), omega (arith, c .one-if .ensures, on-turn t1 (loop .i) (omega (arith, size .ensures)), loop .inv .2))
 
 returns : tie.Need-returns Inv-loop μ-loop
 returns c = omega (arith, c .before .loop .inv .2, on-end (c .before .before .before .args .t1) (c .before .loop .i) (omega (arith, c .before .before .size .ensures)))
@@ -78,7 +78,7 @@ count-on-spec =
     loop-holds
     mul-member
     element-copy-out-member
-    one-requires
+    one-if-requires
     add-on
     add-i
     loop-less

@@ -125,7 +125,7 @@ fn every_buffer(comparison: &mut Comparison, seeded: &mut Seeded) -> Done {
     Ok(())
 }
 
-/// "A remainder of 0 that yields 10000H instead of 0000": frames whose sum is a multiple of 65,536.
+/// Frames whose sum is a multiple of 65,536: a remainder of 0 gives 0000 (PROTOCOL 2.6).
 fn check_0000(comparison: &mut Comparison, seeded: &mut Seeded) -> Done {
     let mut seen = 0;
     for length in 0..2_048 {

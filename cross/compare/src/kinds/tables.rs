@@ -1,4 +1,4 @@
-//! The table's rule, and the thin functions on one record of it.
+//! New records, the table's rule, and the thin functions on one record of it.
 
 use crate::case::Case;
 use crate::difference::{Comparison, Done};
@@ -7,8 +7,9 @@ use crate::records::{linked_of, linked_table, packed, plain, unpacked, PACKED};
 use linked::{Module, MODULES};
 use reference::seeded::Seeded;
 
-/// Both.
+/// All of them.
 pub fn all(comparison: &mut Comparison, seeded: &mut Seeded, rounds: usize) -> Done {
+    every_new_record(comparison)?;
     every_count(comparison, seeded)?;
     every_pair_of_addresses(comparison)?;
     every_value_in_every_field(comparison, seeded)?;
@@ -20,6 +21,13 @@ pub fn all(comparison: &mut Comparison, seeded: &mut Seeded, rounds: usize) -> D
 fn rule(comparison: &mut Comparison, table: &[Module]) -> Done {
     let table = table.to_vec();
     comparison.call(&Case::Table { table }).map(drop)
+}
+
+fn every_new_record(comparison: &mut Comparison) -> Done {
+    for adr in 0..=u8::MAX {
+        comparison.call(&Case::ModuleNew { adr })?;
+    }
+    Ok(())
 }
 
 /// A whole group, as many records as a table may have.

@@ -5,7 +5,7 @@ use Prim.Native.Nat.{ℕ, _-_}
 use native.Mathlib.Omega.{arith}
 use lib.ListN.{length, drop, length-drop}
 use Rattle.listing.proofs.Parts.{lent, Sofar, sofar-none, turn-few, turn-some, sofar-turn, sofar-full, sofar-end}
-use Rattle.listing.specs.Piece.{turn, Puts}
+use Rattle.listing.specs.Within.{turn, Puts}
 use Rattle.receiver.specs.Run.{stepping}
 use Rattle.listing.proofs.Listing.list_within.Statement.{statement}
 use Rattle.listing.proofs.Listing.list_within.Tie as tie

@@ -3,7 +3,8 @@ use mathlib.Core.Path.{sym, ap}
 use Prim.Native.Nat.{_-_, _≤_}
 use native.Mathlib.Omega.{arith}
 use borrow.Author.Needs.{needs}
-use Rattle.receiver.specs.Run.{countOf, moved}
+use Rattle.receiver.specs.Run.{countOf}
+use Rattle.receiver.specs.Pass.{moved}
 use Rattle.receiver.specs.declared.Receiver.the-variants.{Open}
 use Rattle.receiver.specs.declared.Receiver.{Receiver}
 use Rattle.receiver.proofs.Receiver.moved.Statement.{statement}

@@ -3,7 +3,8 @@ use mathlib.Core.Path.{sym, subst}
 use Prim.Native.Nat.{_-_, _≤_}
 use borrow.Author.Needs.{needs}
 use Rattle.receiver.proofs.Running.{passed-wait}
-use Rattle.receiver.specs.Run.{countOf, Passed}
+use Rattle.receiver.specs.Run.{countOf}
+use Rattle.receiver.specs.Pass.{Passed}
 use Rattle.receiver.specs.declared.Receiver.the-variants.{Open}
 use Rattle.receiver.specs.declared.Receiver.{Receiver}
 use Rattle.receiver.proofs.Receiver.pass.Statement.{statement}

@@ -8,7 +8,8 @@ use lib.Seq.{take-all}
 use lib.ListN.{length, drop, getD, length-drop, drop-of-length-le}
 use borrow.Author.Tests.{not-true, not-false}
 use Rattle.receiver.proofs.Running.{later-zero, run-within-is, step-good, turn-end, turn-stop, turn-more}
-use Rattle.receiver.specs.Run.{countOf, moved, ends, later, stepping, Passed}
+use Rattle.receiver.specs.Run.{countOf, ends, later, stepping}
+use Rattle.receiver.specs.Pass.{moved, Passed}
 use Rattle.receiver.specs.Step.{After, gives, step, paper}
 use Rattle.receiver.specs.declared.Receiver.{Receiver}
 use Rattle.frame.specs.Judge.{nothing}

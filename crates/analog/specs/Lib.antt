@@ -1,0 +1,3 @@
+pub mod Capacity
+pub mod List
+pub mod Size

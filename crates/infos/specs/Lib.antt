@@ -1,3 +1,0 @@
-pub mod Took
-pub mod Nothing
-pub mod Groups

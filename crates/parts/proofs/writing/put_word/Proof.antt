@@ -1,0 +1,32 @@
+-- The high byte, then the low one.
+use Prim.Native.Nat.{_-_}
+use native.Mathlib.Omega.{arith}
+use borrow.Author.Needs.{needs}
+use Rattle.buffer.proofs.Puts.{put-then}
+use Rattle.parts.proofs.writing.put_word.Statement.{statement}
+use Rattle.parts.proofs.writing.put_word.Tie as tie
+
+cast-put : tie.Need-cast-put
+cast-put c = search needs
+
+put-requires : tie.Need-put-requires
+put-requires c κs = search needs
+
+cast-put-2 : tie.Need-cast-put-2
+cast-put-2 c = search needs
+
+put-requires-2 : tie.Need-put-requires-2
+put-requires-2 c κs = search needs
+
+same-length : tie.Need-same-length
+same-length c = search needs
+
+returns : tie.Need-returns
+returns c =
+    let start = c .before .before .before .before .before .before .before .before .before in
+    let put = c .before .before .before .before .before .before .put in
+    put-then (record { fits = omega (arith, start .pre .fits) }) (put .ensures) (c .before .before .put2 .ensures)
+
+pub put-word-spec : {M : Type 1} → statement M
+put-word-spec =
+    tie.close (tie.spec cast-put put-requires cast-put-2 put-requires-2 same-length returns)

@@ -1,0 +1,4 @@
+pub mod Readings
+pub mod Took
+pub mod Groups
+pub mod Records
