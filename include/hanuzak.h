@@ -454,7 +454,10 @@ HANUZAK_FIELD(hanuzak_reply, maker, 11, 32);
 /* Judges the bytes between SOI and CR: a frame, or refused with 1 above 4,110 bytes, then 3 to 8. */
 hanuzak_event hanuzak_judge(const uint8_t *stretch, size_t stretch_bytes);
 
-/* A fresh receiver, waiting. */
+/*
+ * A fresh receiver, waiting.  Go on with one where the port says that bytes were lost: the front of a frame and the back of a
+ * later one can add up to a frame that nobody sent (docs/DAMAGE.md, which says what comes of other damage on the line).
+ */
 hanuzak_receiver hanuzak_receiver_new(void);
 
 /*

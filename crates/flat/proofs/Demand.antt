@@ -12,9 +12,11 @@ use Rattle.receiver.specs.Run.{run}
 use Rattle.receiver.specs.Pass.{Fits}
 use Rattle.receiver.specs.Calls.{Asked, toRun, toStep, Can, Offers}
 use Rattle.receiver.specs.Demand.{out, Demand3}
-use Rattle.receiver.specs.Damage.{LostOrDoubled}
+use Rattle.receiver.specs.Damage.{LostOrDoubled, inside, ToldOf, Exchanged}
 use Rattle.receiver.proofs.Pieces.{Took, took-one, took-ran, run-moves}
 use Rattle.receiver.proofs.Demand.{mute, demand-of, lost-or-doubled-of}
+use Rattle.receiver.proofs.Damage.{silent, told-of}
+use Rattle.receiver.proofs.Exchanged.{exchanged-of}
 use Rattle.flat.specs.declared.FlatStepped.{FlatStepped}
 use Rattle.flat.specs.declared.FlatRan.{FlatRan}
 use Rattle.flat.specs.Flat.{eventOf, flatReceiver, receiverOf, steppedOf, ranOf}
@@ -29,26 +31,27 @@ told-back nothing = refl
 told-back (frame h n) = refl
 told-back (refused k) = refl
 
-takes : (r : Receiver) (store stream : List ℕ) (c : FlatCall) → Fits r store → Can (asked c) stream → Keeps r store stream c → Took out mute r store stream (leaves c)
-takes r store stream (ran r′ most answer store′) f can (q, (p, s)) =
-    let a = run (receiverOf r′) store (take most stream) in
-    let g = took-ran out mute (receiverOf r′) store stream most (subst (λ (x : Receiver). Fits x store) (sym q) f) in
-    let next : a .next ≡ receiverOf (answer .next) = sym (ap (λ (x : FlatRan). receiverOf (x .next)) p ∙ receiver-back (a .next)) in
-    let told : a .told ≡ toldOf (answer .event) = sym (ap (λ (x : FlatRan). toldOf (x .event)) p ∙ told-back (a .told)) in
-    let taken : a .taken ≡ answer .taken = sym (ap (λ (x : FlatRan). x .taken) p) in
-    let held : a .held ≡ answer .held = sym (ap (λ (x : FlatRan). x .held) p) in
-    let same : a ≡ leaves (ran r′ most answer store′) = λ i. record { next = next i; store = sym s i; told = told i; taken = taken i; held = held i } in
-    subst (λ (x : Receiver). Took out mute x store stream (leaves (ran r′ most answer store′))) q
-    (subst (Took out mute (receiverOf r′) store stream) same g)
-takes r store [] (stepped r′ answer store′) f can (q, (p, s)) = absurd (omega arith)
-takes r store (b ∷ bs) (stepped r′ answer store′) f can (q, (p, s)) =
-    let a = step (receiverOf r′) store b in
-    let next : a .next ≡ receiverOf (answer .next) = sym (ap (λ (x : FlatStepped). receiverOf (x .next)) p ∙ receiver-back (a .next)) in
-    let told : a .told ≡ toldOf (answer .event) = sym (ap (λ (x : FlatStepped). toldOf (x .event)) p ∙ told-back (a .told)) in
-    let same : record { next = a .next; store = a .store; told = a .told; taken = 1; held = 0 } ≡ leaves (stepped r′ answer store′) =
-    λ i. record { next = next i; store = sym s i; told = told i; taken = 1; held = 0 } in
-    subst (λ (x : Receiver). Took out mute x store (b ∷ bs) (leaves (stepped r′ answer store′))) q
-    (subst (Took out mute (receiverOf r′) store (b ∷ bs)) same (took-one out mute b bs (receiverOf r′) store 0 a refl))
+module _ {A : Type 0} (note : ℕ → Told → List ℕ → List A) (mute : (n : ℕ) (store : List ℕ) → note n nothing store ≡ []) where
+  takes : (r : Receiver) (store stream : List ℕ) (c : FlatCall) → Fits r store → Can (asked c) stream → Keeps r store stream c → Took note mute r store stream (leaves c)
+  takes r store stream (ran r′ most answer store′) f can (q, (p, s)) =
+      let a = run (receiverOf r′) store (take most stream) in
+      let g = took-ran note mute (receiverOf r′) store stream most (subst (λ (x : Receiver). Fits x store) (sym q) f) in
+      let next : a .next ≡ receiverOf (answer .next) = sym (ap (λ (x : FlatRan). receiverOf (x .next)) p ∙ receiver-back (a .next)) in
+      let told : a .told ≡ toldOf (answer .event) = sym (ap (λ (x : FlatRan). toldOf (x .event)) p ∙ told-back (a .told)) in
+      let taken : a .taken ≡ answer .taken = sym (ap (λ (x : FlatRan). x .taken) p) in
+      let held : a .held ≡ answer .held = sym (ap (λ (x : FlatRan). x .held) p) in
+      let same : a ≡ leaves (ran r′ most answer store′) = λ i. record { next = next i; store = sym s i; told = told i; taken = taken i; held = held i } in
+      subst (λ (x : Receiver). Took note mute x store stream (leaves (ran r′ most answer store′))) q
+      (subst (Took note mute (receiverOf r′) store stream) same g)
+  takes r store [] (stepped r′ answer store′) f can (q, (p, s)) = absurd (omega arith)
+  takes r store (b ∷ bs) (stepped r′ answer store′) f can (q, (p, s)) =
+      let a = step (receiverOf r′) store b in
+      let next : a .next ≡ receiverOf (answer .next) = sym (ap (λ (x : FlatStepped). receiverOf (x .next)) p ∙ receiver-back (a .next)) in
+      let told : a .told ≡ toldOf (answer .event) = sym (ap (λ (x : FlatStepped). toldOf (x .event)) p ∙ told-back (a .told)) in
+      let same : record { next = a .next; store = a .store; told = a .told; taken = 1; held = 0 } ≡ leaves (stepped r′ answer store′) =
+      λ i. record { next = next i; store = sym s i; told = told i; taken = 1; held = 0 } in
+      subst (λ (x : Receiver). Took note mute x store (b ∷ bs) (leaves (stepped r′ answer store′))) q
+      (subst (Took note mute (receiverOf r′) store (b ∷ bs)) same (took-one note mute b bs (receiverOf r′) store 0 a refl))
 
 moves : (r : Receiver) (store stream : List ℕ) (c : FlatCall) → Fits r store → Keeps r store stream c → Offers (asked c) → 0 < length stream → 0 < leaves c .taken
 moves r store stream (ran r′ most answer store′) f (q, (p, s)) o h =
@@ -65,7 +68,13 @@ follows r store stream toStep =
 
 -- for C the same: a fresh receiver is any that means waiting, as the one of `hanuzak_receiver_new`
 pub flat-demand-3 : (store : List ℕ) → 4110 ≤ length store → Demand3 fromC store
-flat-demand-3 = demand-of fromC takes moves follows
+flat-demand-3 = demand-of fromC (takes out mute) moves follows
 
 pub flat-lost-or-doubled : (store : List ℕ) → 4110 ≤ length store → LostOrDoubled fromC store
 flat-lost-or-doubled store room = lost-or-doubled-of fromC store (flat-demand-3 store room)
+
+pub flat-damage-told : (store : List ℕ) → 4110 ≤ length store → ToldOf fromC store
+flat-damage-told = told-of fromC (λ a b. takes (inside a b) (silent a b))
+
+pub flat-exchanged : (store : List ℕ) → 4110 ≤ length store → Exchanged fromC store
+flat-exchanged store room = exchanged-of fromC store (flat-demand-3 store room)

@@ -1,10 +1,10 @@
 -- The listing for C: the numbers say what the enums do, so its calls are those of `list`.
-use mathlib.Core.Path.{_≡_, refl, sym, ap, _∙_, subst}
+use mathlib.Core.Path.{_≡_, refl, ap, _∙_}
 use mathlib.Core.List.{List}
 use Prim.Native.Nat.{ℕ}
 use lib.ListN.{length, take}
 use lib.Dec.{ltb}
-use Rattle.buffer.specs.Writing.{Outcome, leaves}
+use Rattle.buffer.specs.Writing.{leaves}
 use Rattle.buffer.proofs.Lists.{by-cond}
 use Rattle.receiver.specs.Step.{beyond}
 use Rattle.listing.specs.declared.Listing.{Listing}
@@ -13,7 +13,7 @@ use Rattle.listing.specs.Made.{ListsStream}
 use Rattle.listing.proofs.Made.{lists-stream-of}
 use Rattle.flat.specs.declared.FlatListed.{FlatListed}
 use Rattle.flat.specs.Flat.{writtenOf}
-use Rattle.flat.specs.Listing.{flatListing, listingBack, FlatLists}
+use Rattle.flat.specs.Listing.{flatListing, listingBack}
 use Rattle.flat.specs.Made.{outcomeOf, FlatMade, fromCListing}
 use Rattle.flat.proofs.Demand.{receiver-back}
 

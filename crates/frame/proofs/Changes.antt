@@ -1,42 +1,46 @@
 -- What tells one whole encoding from another that is nearly the same: CHKSUM covers LENGTH too, so two sealed lists that differ at one place do not differ.
 use mathlib.Core.Path.{_≡_, refl, sym, ap, _∙_, subst}
 use mathlib.Core.Logic.{inl, inr}
+use mathlib.Core.Bool.{cond}
 use mathlib.Core.List.{List, [], _∷_, _++_, append-assoc, head-eq-of-cons-eq, tail-eq-of-cons-eq, append-cancel-left}
 use Prim.Native.Nat.{ℕ, _+_, _*_, _%_, _≤_, _<_}
 use native.Mathlib.Omega.{arith}
 use lib.ListN.{length, drop, length-append, List·getD-append}
 use lib.Seq.{append-snoc}
-use Rattle.buffer.proofs.Lists.{cancel, levi, Levi}
+use lib.Dec.{ltb, ltb→lt, nltb→le}
+use Rattle.buffer.proofs.Lists.{by-cond, cancel, levi, Levi}
 use Rattle.hex.specs.Hex.{hexes, word, byteAt, wordAt, unhexes, Bytes}
 use Rattle.hex.proofs.Laws.{Hexy, hexy-cut, said-range, length-hexes, unhexes-hexes, word-hexes}
 use Rattle.frame.specs.declared.Header.{Header}
 use Rattle.frame.specs.Frame.{lengthOf, sum, chksum, packed, seal, chars, Encodes, Whole}
-use Rattle.frame.specs.Judge.{lenid}
+use Rattle.frame.specs.Judge.{refused, lenid, judge}
 use Rattle.frame.proofs.Steps.{sum-join}
-use Rattle.frame.proofs.Judging.{chars-read, length-fits, chksum-fits, bytes-packed, whole-good, whole-count}
+use Rattle.frame.proofs.Judging.{chars-read, length-fits, chksum-fits, bytes-packed, short-refused, count-refused, whole-good, whole-count}
 
 -- ---- a sealed list: characters and their CHKSUM
 
-tail : List ℕ → List ℕ
+pub tail : List ℕ → List ℕ
 tail b = hexes (word (chksum b))
 
 length-tail : (b : List ℕ) → length (tail b) ≡ 4
 unfolding tail
 length-tail b = length-hexes (word (chksum b))
 
+pub tail-word : (b : List ℕ) → wordAt (tail b) 0 ≡ chksum b
+unfolding tail
+tail-word b = word-hexes (chksum b) (chksum-fits b)
+
 -- the last four characters say what the sum is
 tail-sum : (b d : List ℕ) → tail b ≡ tail d → sum b % 65536 ≡ sum d % 65536
-unfolding tail chksum
-tail-sum b d e =
-    let w : chksum b ≡ chksum d = sym (word-hexes (chksum b) (chksum-fits b)) ∙ ap (λ (x : List ℕ). wordAt x 0) e ∙ word-hexes (chksum d) (chksum-fits d) in
-    omega arith
+unfolding chksum
+tail-sum b d e = let w : chksum b ≡ chksum d = sym (tail-word b) ∙ ap (λ (x : List ℕ). wordAt x 0) e ∙ tail-word d in omega arith
 
 seal-is : (b : List ℕ) → b ++ tail b ≡ seal b
 unfolding seal tail
 seal-is b = refl
 
 -- one seal: the body and the last four
-seal-cut : (s t b : List ℕ) → length t ≡ 4 → s ++ t ≡ seal b → (s ≡ b) × (t ≡ tail b)
+pub seal-cut : (s t b : List ℕ) → length t ≡ 4 → s ++ t ≡ seal b → (s ≡ b) × (t ≡ tail b)
 unfolding seal tail
 seal-cut s t b l e = cancel s t b (tail b) (l ∙ sym (length-tail b)) e
 
@@ -82,7 +86,7 @@ suffix x a b d h e =
 
 -- ---- whole encodings
 
-whole-seal : (c : List ℕ) → Whole c → (b : List ℕ) × (c ≡ seal b)
+pub whole-seal : (c : List ℕ) → Whole c → (b : List ℕ) × (c ≡ seal b)
 unfolding chars
 whole-seal c w = (hexes (packed (w .0) (lengthOf (2 * length (w .1))) (w .1)), w .2 .is)
 
@@ -95,17 +99,33 @@ whole-one-place x a a′ y w w′ =
     let r′ = said-range a′ (hexy-cut x (a′ ∷ y) (whole-good (x ++ a′ ∷ y) w′ .hexy) .1 .0) in
     one-place x a a′ y (s .0) (s′ .0) (omega arith) (omega arith) (s .1) (s′ .1)
 
--- LENID stands in the first twelve characters, so no whole encoding begins another
-lenid-prefix : (x t : List ℕ) → 12 ≤ length x → lenid (x ++ t) ≡ lenid x
-unfolding lenid wordAt byteAt
-lenid-prefix x t h =
+-- LENGTH stands in the first twelve characters, so no whole encoding begins another
+length-prefix : (x t : List ℕ) → 12 ≤ length x → wordAt (x ++ t) 8 ≡ wordAt x 8
+unfolding wordAt byteAt
+length-prefix x t h =
     cc (List·getD-append x t 0 8 (omega arith), List·getD-append x t 0 9 (omega arith), List·getD-append x t 0 10 (omega arith), List·getD-append x t 0 11 (omega arith))
+
+lenid-prefix : (x t : List ℕ) → 12 ≤ length x → lenid (x ++ t) ≡ lenid x
+unfolding lenid
+lenid-prefix x t h = ap (λ (w : ℕ). w % 4096) (length-prefix x t h)
 
 pub whole-prefix : (x : List ℕ) (a : ℕ) (y : List ℕ) → Whole x → Whole (x ++ a ∷ y) → ⊥
 whole-prefix x a y w v =
     let p = whole-count x w in
     let q = whole-count (x ++ a ∷ y) v in
     omega (arith, lenid-prefix x (a ∷ y) (omega arith), length-append x (a ∷ y))
+
+-- the front of one is too short, or LENGTH asks for more
+pub prefix-refused : (x : List ℕ) (a : ℕ) (y : List ℕ) → Whole (x ++ a ∷ y) → judge x ≡ refused (cond (ltb (length x) 16) 3 7)
+prefix-refused x a y w =
+    let g = whole-good (x ++ a ∷ y) w in
+    by-cond (λ (n : ℕ). judge x ≡ refused n) (ltb (length x) 16)
+    (λ t. short-refused x (ltb→lt (length x) 16 t))
+    (λ t. let long = nltb→le (length x) 16 t in
+    let same = length-prefix x (a ∷ y) (omega arith) in
+    let n = lenid-prefix x (a ∷ y) (omega arith) in
+    let size = length-append x (a ∷ y) in
+    count-refused x (hexy-cut x (a ∷ y) (g .hexy) .0) long (omega (arith, g .few)) (cc (g .lchk, same, n)) (omega (arith, g .even)) (λ e. omega (arith, g .count)))
 
 -- no short one ends in another, but for one character before that
 pub whole-suffix : (x : List ℕ) (a : ℕ) (y : List ℕ) → Whole (x ++ a ∷ y) → lenid (x ++ a ∷ y) ≤ 936 → Whole y → ⊥

@@ -1,8 +1,8 @@
 -- The judge accepts exactly the whole encodings, with their header and LENID: the seven tests as facts, and the characters laid out for any LENGTH and CHKSUM.
 use mathlib.Core.Path.{_≡_, refl, sym, ap, ap₂, _∙_, subst}
-use mathlib.Core.Logic.{_↔_}
-use mathlib.Core.Bool.{Bool, true, false}
-use mathlib.Core.List.{List, [], _∷_, _++_}
+use mathlib.Core.Logic.{_↔_, _≢_}
+use mathlib.Core.Bool.{Bool, true, false, not}
+use mathlib.Core.List.{List, [], _∷_, _++_, List·Memᴰ as Among, List·Memᴰ·head, List·Memᴰ·tail}
 use Prim.Native.Nat.{ℕ, _+_, _*_, _/_, _%_, _≤_, _<_}
 use native.Mathlib.Omega.{arith}
 use lib.ListN.{length, take, length-append}
@@ -10,11 +10,11 @@ use lib.Seq.{take-at}
 use lib.Dec.{T, eqb→eq, leb→le, le→leb}
 use mir.Facts.{yes-eqb}
 use Rattle.buffer.proofs.Lists.{never}
-use Rattle.hex.specs.Hex.{hexes, word, byteAt, wordAt, unhexes, Bytes}
+use Rattle.hex.specs.Hex.{allHex, hexes, word, byteAt, wordAt, unhexes, Bytes}
 use Rattle.hex.proofs.Laws.{Hexy, hexy-yes, yes-hexy, hexy-join, hexy-hexes, length-hexes, hexes-join, byte-pair, word-pairs, word-hexes, word-seam, bytes-word, bytes-cut, bytes-unhexes, hexes-unhexes}
 use Rattle.frame.specs.declared.Header.{Header}
 use Rattle.frame.specs.Frame.{lchksum, lengthOf, chksum, packed, seal, chars, Encodes, Whole, Frames}
-use Rattle.frame.specs.Judge.{Told, frame, need, header, lenid, judge}
+use Rattle.frame.specs.Judge.{Told, frame, refused, need, header, lenid, judge}
 
 -- ---- the seven tests, as facts
 
@@ -27,6 +27,11 @@ need-yes : (b : Bool) (n : ℕ) (t : Told) → T b → need b n t ≡ t
 unfolding need
 need-yes true n t y = refl
 need-yes false n t y = absurd y
+
+need-by : (P : Told → Type 0) (b : Bool) (n : ℕ) (t : Told) → (T b → P t) → (T (not b) → P (refused n)) → P (need b n t)
+unfolding need
+need-by P true n t f g = f tt
+need-by P false n t f g = g tt
 
 pub record Good (c : List ℕ) : Type 0 where
   pub few : length c ≤ 4110
@@ -59,7 +64,7 @@ judge-good c h n p =
       g .1,
     )
 
-good-judge : (c : List ℕ) → Good c → judge c ≡ frame (header c) (lenid c)
+pub good-judge : (c : List ℕ) → Good c → judge c ≡ frame (header c) (lenid c)
 unfolding judge
 good-judge c g =
     need-yes _ 1 _ (le→leb _ _ (g .few))
@@ -84,7 +89,7 @@ length-high : (n : ℕ) → n < 4096 → lengthOf n / 4096 ≡ lchksum n
 unfolding lengthOf lchksum
 length-high n h = omega arith
 
-length-whole : (w : ℕ) → w / 4096 ≡ lchksum (w % 4096) → w ≡ lengthOf (w % 4096)
+pub length-whole : (w : ℕ) → w / 4096 ≡ lchksum (w % 4096) → w ≡ lengthOf (w % 4096)
 unfolding lengthOf
 length-whole w e = omega arith
 
@@ -272,7 +277,73 @@ judge-accepts c h n = (there, back)
         let g = chars-read h (r .0) c (r .1) in
         good-judge c (g .0) ∙ cc (g .1, g .2, r .2)
 
+-- ---- what is told of too few characters, of an odd number of hex characters, of another number than LENGTH asks for
+
+pub short-refused : (c : List ℕ) → length c < 16 → judge c ≡ refused 3
+unfolding judge
+short-refused c h =
+    need-yes _ 1 _ (le→leb (length c) 4110 (omega arith))
+    ∙ need-by (λ (t : Told). t ≡ refused 3) _ 3 _ (λ t. absurd (omega (arith, leb→le 16 (length c) t))) (λ t. refl)
+
+-- 5, 6 or 7: what LENGTH asks for is even
+abbrev Odd : Told → Type 0
+Odd t = (n : ℕ) × Among n (5 ∷ 6 ∷ 7 ∷ []) × (t ≡ refused n)
+
+pub odd-refused : (c : List ℕ) → Hexy c → 16 ≤ length c → length c ≤ 4110 → length c % 2 ≡ 1 → Odd (judge c)
+unfolding judge
+odd-refused c h long few odd =
+    subst Odd (sym (need-yes _ 1 _ (le→leb _ _ few) ∙ need-yes _ 3 _ (le→leb _ _ long) ∙ need-yes _ 4 _ (yes-hexy c h)))
+    (need-by Odd _ 5 _
+    (λ _. need-by Odd _ 6 _
+    (λ even. need-by Odd _ 7 _
+    (λ count. absurd (omega (arith, eqb→eq (lenid c % 2) 0 even, eqb→eq (length c) (16 + lenid c) count)))
+    (λ _. (7, List·Memᴰ·tail (List·Memᴰ·tail (List·Memᴰ·head refl)), refl)))
+    (λ _. (6, List·Memᴰ·tail (List·Memᴰ·head refl), refl)))
+    (λ _. (5, List·Memᴰ·head refl, refl)))
+
+-- a right LENGTH that asks for another number of them
+pub count-refused : (c : List ℕ) → Hexy c → 16 ≤ length c → length c ≤ 4110 → wordAt c 8 / 4096 ≡ lchksum (lenid c) → lenid c % 2 ≡ 0 → length c ≢ 16 + lenid c → judge c ≡ refused 7
+unfolding judge
+count-refused c h long few lchk even other =
+    need-yes _ 1 _ (le→leb _ _ few)
+    ∙ need-yes _ 3 _ (le→leb _ _ long)
+    ∙ need-yes _ 4 _ (yes-hexy c h)
+    ∙ need-yes _ 5 _ (yes-eqb lchk)
+    ∙ need-yes _ 6 _ (yes-eqb even)
+    ∙ need-by (λ (t : Told). t ≡ refused 7) _ 7 _ (λ t. absurd (other (eqb→eq (length c) (16 + lenid c) t))) (λ t. refl)
+
 -- ---- what is known of whole encodings
+
+pub good-whole : (c : List ℕ) → Good c → Whole c
+good-whole c g = let f = judge-accepts c (header c) (lenid c) .0 (good-judge c g) in (header c, f .0, f .1)
+
+-- as many characters as a frame can have, and no frame: 4 where one is not hex, otherwise 5 to 8
+module _ (c : List ℕ) (long : 16 ≤ length c) (few : length c ≤ 4110) (none : Whole c → ⊥) where
+  pub hex-refused : Hexy c → (n : ℕ) × Among n (5 ∷ 6 ∷ 7 ∷ 8 ∷ []) × (judge c ≡ refused n)
+  unfolding judge
+  hex-refused hexy =
+      subst Broken (sym (need-yes _ 1 _ (le→leb _ _ few) ∙ need-yes _ 3 _ (le→leb _ _ long) ∙ need-yes _ 4 _ (yes-hexy c hexy)))
+      (need-by Broken _ 5 _
+      (λ lchk. need-by Broken _ 6 _
+      (λ even. need-by Broken _ 7 _
+      (λ count. need-by Broken _ 8 _
+      (λ check. absurd (none (good-whole c (record { few = few; long = long; hexy = hexy; lchk = eqb→eq _ _ lchk; even = eqb→eq _ _ even; count = eqb→eq _ _ count; check = eqb→eq _ _ check }))))
+      (λ _. (8, List·Memᴰ·tail (List·Memᴰ·tail (List·Memᴰ·tail (List·Memᴰ·head refl))), refl)))
+      (λ _. (7, List·Memᴰ·tail (List·Memᴰ·tail (List·Memᴰ·head refl)), refl)))
+      (λ _. (6, List·Memᴰ·tail (List·Memᴰ·head refl), refl)))
+      (λ _. (5, List·Memᴰ·head refl, refl)))
+    where
+      Broken : Told → Type 0
+      Broken t = (n : ℕ) × Among n (5 ∷ 6 ∷ 7 ∷ 8 ∷ []) × (t ≡ refused n)
+
+  pub any-refused : (n : ℕ) × (judge c ≡ refused n)
+  unfolding judge
+  any-refused =
+      let sized = need-yes _ 1 _ (le→leb _ _ few) ∙ need-yes _ 3 _ (le→leb _ _ long) in
+      subst (λ (t : Told). (n : ℕ) × (t ≡ refused n)) (sym sized)
+      (need-by (λ (t : Told). (n : ℕ) × (t ≡ refused n)) (allHex c) 4 _
+      (λ hexy. let r = hex-refused (hexy-yes c hexy) in (r .0, sym (sized ∙ need-yes (allHex c) 4 _ hexy) ∙ r .2))
+      (λ _. (4, refl)))
 
 pub whole-good : (c : List ℕ) → Whole c → Good c
 whole-good c w = chars-read (w .0) (w .1) c (w .2) .0

@@ -1,4 +1,5 @@
 pub mod Judging
 pub mod Changes
+pub mod Exchanged
 pub mod Steps
 pub mod Round

@@ -7,4 +7,4 @@ use Rattle.lines.specs.Lines.{AllHold, lines}
 
 pub lines-hold : AllHold lines
 unfolding isHex digitOf charOf allHex hexes byteOf byteAt wordAt lchksum lengthOf sum chksum packed seal chars encode need header lenid judge
-lines-hold = (refl, (refl, (refl, (refl, (refl, (refl, (refl, (refl, ((refl, refl), ((refl, refl), ((refl, refl), ((refl, refl), (refl, (refl, (refl, (refl, tt))))))))))))))))
+lines-hold = (refl, (refl, (refl, (refl, (refl, (refl, (refl, (refl, ((refl, refl), ((refl, refl), ((refl, refl), ((refl, refl), ((refl, refl), ((refl, refl), ((refl, refl), (refl, (refl, (refl, (refl, (refl, (refl, (refl, (refl, (refl, (refl, tt)))))))))))))))))))))))))

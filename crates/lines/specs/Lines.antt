@@ -12,6 +12,7 @@ use Rattle.hex.specs.Hex.{hexes, word}
 use Rattle.frame.specs.declared.Header.{Header}
 use Rattle.frame.specs.Frame.{CR, lengthOf, chksum, encode}
 use Rattle.frame.specs.Judge.{frame, refused, judge}
+use Rattle.receiver.specs.Damage.{lost, doubled, exchanged}
 use Rattle.record.specs.Meanings.{tenthsCelsiusOf, milliampsOf}
 
 pub data Line : Type 0 where
@@ -23,6 +24,8 @@ pub data Line : Type 0 where
   sent : String → ℕ → ℕ → ℕ → ℕ → List ℕ → Line
   -- a stretch from its tilde on that is no frame, and the number of its refusal
   broken : String → ℕ → Line
+  -- a line, a place of it, and the line without the character there, with it twice, with it and the next one exchanged
+  oneLost oneDoubled twoExchanged : String → ℕ → String → Line
   -- the word of a temperature, and tenths of a degree Celsius
   temperature : ℕ → ℤ → Line
   -- the word of a current, and milliamps
@@ -38,12 +41,19 @@ Holds (sent text ver adr cid1 cid2 info) =
     (judge (drop 1 (ascii text)) ≡ frame (headerOf ver adr cid1 cid2) (2 * length info))
     × (encode (headerOf ver adr cid1 cid2) info ≡ ascii text ++ CR ∷ [])
 Holds (broken text number) = judge (drop 1 (ascii text)) ≡ refused number
+Holds (oneLost text k left) = lost k (ascii text) ≡ ascii left
+Holds (oneDoubled text k left) = doubled k (ascii text) ≡ ascii left
+Holds (twoExchanged text k left) = exchanged k (ascii text) ≡ ascii left
 Holds (temperature w tenths) = tenthsCelsiusOf (toZ w16 w) ≡ tenths
 Holds (current w milliamps) = milliampsOf (toZ w16 w) ≡ milliamps
 
 abbrev pub AllHold : List Line → Type 0
 AllHold [] = Unit {0}
 AllHold (line ∷ lines) = Holds line × AllHold lines
+
+-- INFO of a 42H reply from ADR 02H with one cell, the low byte of its voltage given
+abbrev pub oneCell : ℕ → List ℕ
+oneCell low = 0x00 ∷ 0x02 ∷ 0x01 ∷ 0x0D ∷ low ∷ 0x01 ∷ 0x0B ∷ 0xAA ∷ 0x00 ∷ 0x00 ∷ 0x0D ∷ 0x45 ∷ 0xFD ∷ 0xE8 ∷ 0x02 ∷ 0xFD ∷ 0xE8 ∷ 0x00 ∷ 0x07 ∷ []
 
 abbrev pub lines : List Line
 lines =
@@ -59,6 +69,15 @@ lines =
     ∷ sent "~210246000000FDB1" 0x21 0x02 0x46 0x00 []
     ∷ sent "~21024642E00202FD32" 0x21 0x02 0x46 0x42 (0x02 ∷ [])
     ∷ sent "~210246040000FDAD" 0x21 0x02 0x46 0x04 []
+    ∷ sent "~0202464F0000FD98" 0x02 0x02 0x46 0x4F []
+    ∷ sent "~2102460080260002010D45010BAA00000D45FDE802FDE80007F578" 0x21 0x02 0x46 0x00 (oneCell 0x45)
+    ∷ sent "~2102460080260002010D54010BAA00000D45FDE802FDE80007F578" 0x21 0x02 0x46 0x00 (oneCell 0x54)
+    ∷ oneLost "~2002464F0000FD98" 1 "~002464F0000FD98"
+    ∷ oneDoubled "~2002464F0000FD98" 8 "~2002464FF0000FD98"
+    ∷ twoExchanged "~2002464F0000FD98" 1 "~0202464F0000FD98"
+    ∷ twoExchanged "~2102460080260002010D45010BAA00000D45FDE802FDE80007F578" 21 "~2102460080260002010D54010BAA00000D45FDE802FDE80007F578"
+    ∷ broken "~002464F0000FD98" 3
+    ∷ broken "~2002464FF0000FD98" 5
     ∷ temperature 0x0BAA (pos 255)
     ∷ temperature 0x0A2F (negsuc 123)
     ∷ current 0xFFD8 (negsuc 3999)

@@ -1,4 +1,4 @@
-// Runs the worked lines of PROTOCOL's chapter 12 that are not proved as one statement (specs/Lines.antt has those), and prints what each gives.
+// Runs worked lines of PROTOCOL's chapters 12 and 14, those that are not proved (specs/Lines.antt has the others) and some that are, and prints what each gives.
 
 use frame::Header;
 use libc::STDOUT_FILENO;
@@ -108,7 +108,8 @@ fn limits(name: &[u8], info: &[u8]) {
     io::write_all(STDOUT_FILENO, b"\n");
 }
 
-fn main() {
+// Short frames, and stretches that are none.
+fn frames() {
     hear(b"check FD32:", b"~21024642E00202FD32\r");
     hear(b"check FD33:", b"~21024642E00202FD33\r");
     hear(b"check fd32:", b"~21024642E00202fd32\r");
@@ -117,6 +118,10 @@ fn main() {
         b"half a reply, then a good one:",
         b"~210246~2002464F0000FD98\r",
     );
+}
+
+// As many characters as a stretch can have, and one more.
+fn longest() {
     let mut long = [48u8; 4113];
     long[0] = 126;
     long[4111] = 13;
@@ -124,6 +129,10 @@ fn main() {
     long[4111] = 48;
     long[4112] = 13;
     hear(b"4111 characters and CR:", &long);
+}
+
+// INFOs of 92H and 42H.
+fn records() {
     limits(b"92H:", b"02D002B79800FA00FAC0");
     analog(b"total 65,000:", b"0002010D45010BAA0000C350FDE802FDE80007");
     analog(
@@ -138,6 +147,10 @@ fn main() {
         b"items 4 without FFFF:",
         b"0002010D45010BAA0000C350FDE804FFFF000700FDE800FDE9",
     );
+}
+
+// The example at the end of V3.3.
+fn worked_example() {
     hear(
         b"V3.3's reply, as printed:",
         b"~20024600F07A11020F0D450D440D450D44A0D4A0D4B0D4A0D4A0D4A050BC30BC30BC30BCD0BCD000C725FFF04FFF000200CA58012110E1A2\r",
@@ -154,4 +167,44 @@ fn main() {
         b"its record:",
         b"11020F0D450D440D450D440D450D440D3E0D450D4A0D4A0D4B0D4A0D4A0D4A0D4A050BC30BC30BC30BCD0BCD0000C725FFFF04FFFF000200CA58012110",
     );
+}
+
+// Lines with a character exchanged, lost or sent twice.
+fn damaged() {
+    hear(b"4FH to ADR 02:", b"~2002464F0000FD98\r");
+    hear(b"two characters exchanged:", b"~0202464F0000FD98\r");
+    hear(
+        b"a reply with one cell:",
+        b"~2102460080260002010D45010BAA00000D45FDE802FDE80007F578\r",
+    );
+    analog(b"its record:", b"0002010D45010BAA00000D45FDE802FDE80007");
+    hear(
+        b"two digits of its cell exchanged:",
+        b"~2102460080260002010D54010BAA00000D45FDE802FDE80007F578\r",
+    );
+    analog(b"its record:", b"0002010D54010BAA00000D45FDE802FDE80007");
+    hear(
+        b"its tilde twice:",
+        b"~~2102460080260002010D45010BAA00000D45FDE802FDE80007F578\r",
+    );
+    hear(
+        b"its CR twice:",
+        b"~2102460080260002010D45010BAA00000D45FDE802FDE80007F578\r\r",
+    );
+    hear(
+        b"one character lost:",
+        b"~2102460080260002010D4010BAA00000D45FDE802FDE80007F578\r",
+    );
+    hear(
+        b"one character twice:",
+        b"~2102460080260002010D455010BAA00000D45FDE802FDE80007F578\r",
+    );
+}
+
+fn main() {
+    frames();
+    longest();
+    records();
+    worked_example();
+    damaged();
 }

@@ -131,8 +131,25 @@ longer s n i o f =
       info = f .info ∙ ap (λ (x : List ℕ). infoAt (o .lenid) (drop (suc i) x)) same;
     }
 
+-- and one of the stream whose CR was taken is one of those bytes
+pub shorter : (s : List ℕ) (n i : ℕ) (o : Out) → Of s i o → o .cr < n → Of (take n s) i o
+shorter s n i o f h =
+    let g = f .stretch in
+    let j = o .cr in
+    let same : take j (take n s) ≡ take j s = take-take j n s (omega arith) in
+    record {
+      stretch =
+          record {
+            order = g .order;
+            opens = getD-take n s i 0 (omega (arith, g .order)) ∙ g .opens;
+            closes = getD-take n s j 0 h ∙ g .closes;
+            frame = subst (λ (x : List ℕ). Frames (o .header) (o .lenid) (drop (suc i) x)) (sym same) (g .frame);
+          };
+      info = f .info ∙ ap (λ (x : List ℕ). infoAt (o .lenid) (drop (suc i) x)) (sym same);
+    }
+
 -- where every whole encoding of a stream ends before a part of it or begins behind it, no frame is from that part
-none-from : (os : List Out) (s : List ℕ) (n i j : ℕ) → ((o : Out) → List·Memᴰ o os → (l : ℕ) × Of (take n s) l o)
+pub none-from : (os : List Out) (s : List ℕ) (n i j : ℕ) → ((o : Out) → List·Memᴰ o os → (l : ℕ) × Of (take n s) l o)
     → ((l e : ℕ) (h : Header) (m : ℕ) → Stretch s l e h m → (e < i) ⊎ (j < l)) → NoneFrom s i j os
 none-from os s n i j only apart o m =
     let t = only o m in

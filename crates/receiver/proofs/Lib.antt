@@ -8,3 +8,5 @@ pub mod Pieces
 pub mod Bound
 pub mod There
 pub mod Demand
+pub mod Damage
+pub mod Exchanged

@@ -16,10 +16,10 @@ use Rattle.frame.specs.Judge.{frame, judge}
 use Rattle.frame.proofs.Judging.{judge-accepts, whole-good, whole-count}
 use Rattle.receiver.specs.declared.Receiver.{Receiver}
 use Rattle.receiver.specs.declared.Receiver.the-variants.{Waiting, Open}
-use Rattle.receiver.specs.Step.{Kind, soi, cr, other, kind, After, stepBy, step}
+use Rattle.receiver.specs.Step.{Kind, soi, cr, other, kind, After, gives, stepBy, step}
 use Rattle.receiver.specs.Pass.{Fits}
 use Rattle.receiver.specs.Stream.{after, toldAfter}
-use Rattle.receiver.proofs.Rows.{is-soi, is-cr, is-other, step-within}
+use Rattle.receiver.proofs.Rows.{is-soi, is-other, step-within, row-judged}
 
 -- ---- kinds of bytes
 
@@ -29,15 +29,27 @@ kind-soi b =
     by-cond (λ (k : Kind). k ≡ soi → b ≡ SOI) (eqb b SOI) (λ t e. eqb→eq b SOI t)
     (λ t. by-cond (λ (k : Kind). k ≡ soi → b ≡ SOI) (eqb b CR) (λ u e. cc) (λ u e. cc))
 
-kind-cr : (b : ℕ) → kind b ≡ cr → b ≡ CR
+pub kind-cr : (b : ℕ) → kind b ≡ cr → b ≡ CR
 unfolding kind
 kind-cr b =
     by-cond (λ (k : Kind). k ≡ cr → b ≡ CR) (eqb b SOI) (λ t e. cc)
     (λ t. by-cond (λ (k : Kind). k ≡ cr → b ≡ CR) (eqb b CR) (λ u e. eqb→eq b CR u) (λ u e. cc))
 
--- hex characters are neither
-kind-hex : (b : ℕ) → said b < 16 → kind b ≡ other
+-- characters: bytes that are neither
+abbrev pub Plain : List ℕ → Type 0
+Plain [] = Unit {0}
+Plain (b ∷ c) = (kind b ≡ other) × Plain c
+
+pub kind-hex : (b : ℕ) → said b < 16 → kind b ≡ other
 kind-hex b h = let r = said-range b h in is-other b (λ e. omega arith) (λ e. omega arith)
+
+pub hexy-plain : (c : List ℕ) → Hexy c → Plain c
+hexy-plain [] h = tt
+hexy-plain (b ∷ c) h = (kind-hex b (h .0), hexy-plain c (h .1))
+
+pub plain-join : (c d : List ℕ) → Plain c → Plain d → Plain (c ++ d)
+plain-join [] d h k = k
+plain-join (b ∷ c) d h k = (h .0, plain-join c d (h .1) k)
 
 -- ---- the characters that a receiver holds
 
@@ -118,40 +130,36 @@ unfolding stepBy
 soi-by Waiting store = refl
 soi-by (Open n) store = refl
 
-step-soi : (r : Receiver) (store : List ℕ) → Fits r store → holds (step r store SOI) ≡ some []
+pub step-soi : (r : Receiver) (store : List ℕ) → Fits r store → holds (step r store SOI) ≡ some []
 step-soi r store f = rw (step-within r store SOI (f .0) (f .1), is-soi SOI refl) (soi-by r store)
 
 -- CR has what is held judged
-cr-by : (r : Receiver) (store c : List ℕ) → held r store ≡ some c → stepBy cr r store CR .told ≡ judge c
-unfolding stepBy
-cr-by Waiting store c e = never (cc)
-cr-by (Open n) store c e = cc
+pub step-cr : (r : Receiver) (store c : List ℕ) → Fits r store → held r store ≡ some c → step r store CR ≡ gives Waiting store (judge c)
+step-cr Waiting store c f e = never (cc)
+step-cr (Open n) store c f e = let q : c ≡ take n store = cc in sym (row-judged store CR (f .0) n (f .1) (judge c) (ap judge q) refl)
 
-step-cr : (r : Receiver) (store c : List ℕ) → Fits r store → held r store ≡ some c → step r store CR .told ≡ judge c
-step-cr r store c f e = rw (step-within r store CR (f .0) (f .1), is-cr CR refl) (cr-by r store c e)
-
--- a hex character is held behind the others
-hex-by : (x : ℕ) (d : List ℕ) (r : Receiver) (store : List ℕ) → Fits r store → held r store ≡ some d → length d < 4110
+-- a character is held behind the others
+more-by : (x : ℕ) (d : List ℕ) (r : Receiver) (store : List ℕ) → Fits r store → held r store ≡ some d → length d < 4110
     → holds (stepBy other r store x) ≡ some (d ++ x ∷ [])
 unfolding stepBy
-hex-by x d Waiting store f e l = never (cc)
-hex-by x d (Open n) store f e l =
+more-by x d Waiting store f e l = never (cc)
+more-by x d (Open n) store f e l =
     let q : take n store ≡ d = cc in
     let m = length-take-le n store (omega (arith, f .0, f .1)) in
     let s : take (suc n) (set store n x) ≡ d ++ x ∷ [] = take-suc-set store n x (omega (arith, f .0, ap length q)) ∙ ap (λ (y : List ℕ). y ++ x ∷ []) q in
     by-cond (λ (a : After). holds a ≡ some (d ++ x ∷ [])) (ltb n 4110) (λ t. ap some s) (λ t. absurd (omega (arith, nltb→le n 4110 t, ap length q)))
 
-step-hex : (x : ℕ) (d : List ℕ) (r : Receiver) (store : List ℕ) → Fits r store → held r store ≡ some d → said x < 16 → length d < 4110
+pub step-more : (x : ℕ) (d : List ℕ) (r : Receiver) (store : List ℕ) → Fits r store → held r store ≡ some d → kind x ≡ other → length d < 4110
     → holds (step r store x) ≡ some (d ++ x ∷ [])
-step-hex x d r store f e h l = rw (step-within r store x (f .0) (f .1), kind-hex x h) (hex-by x d r store f e l)
+step-more x d r store f e h l = rw (step-within r store x (f .0) (f .1), h) (more-by x d r store f e l)
 
-after-hexy : (c d : List ℕ) (r : Receiver) (store : List ℕ) → Fits r store → held r store ≡ some d → Hexy c → length d + length c ≤ 4110
+pub after-plain : (c d : List ℕ) (r : Receiver) (store : List ℕ) → Fits r store → held r store ≡ some d → Plain c → length d + length c ≤ 4110
     → holds (after r store c) ≡ some (d ++ c)
 unfolding after
-after-hexy [] d r store f e h l = e ∙ ap some (sym (append-nil d))
-after-hexy (x ∷ c) d r store f e h l =
+after-plain [] d r store f e h l = e ∙ ap some (sym (append-nil d))
+after-plain (x ∷ c) d r store f e h l =
     let a = step r store x in
-    after-hexy c (d ++ x ∷ []) (a .next) (a .store) (stepped r store x f .fits) (step-hex x d r store f e (h .0) (omega arith)) (h .1) (omega (arith, length-append d (x ∷ [])))
+    after-plain c (d ++ x ∷ []) (a .next) (a .store) (stepped r store x f .fits) (step-more x d r store f e (h .0) (omega arith)) (h .1) (omega (arith, length-append d (x ∷ [])))
     ∙ ap some (append-snoc d x c)
 
 -- ---- a frame at a byte: what stands before it
@@ -203,12 +211,12 @@ module _ (store p : List ℕ) (b : ℕ) (h : Header) (n : ℕ) (room : 4110 ≤ 
           let l = after Waiting store q in
           let o = step (l .next) (l .store) SOI in
           ap holds (after-join q (SOI ∷ c) Waiting store)
-          ∙ after-hexy c [] (o .next) (o .store) (stepped (l .next) (l .store) SOI (fits q) .fits)
-          (step-soi (l .next) (l .store) (fits q)) (whole-good c w .hexy) (omega arith)
+          ∙ after-plain c [] (o .next) (o .store) (stepped (l .next) (l .store) SOI (fits q) .fits)
+          (step-soi (l .next) (l .store) (fits q)) (hexy-plain c (whole-good c w .hexy)) (omega arith)
 
       back : Closes p b h n → toldAfter store p b ≡ frame h n
       back (e, q, c, s, w) =
           let a = after Waiting store p in
           ap (λ (x : ℕ). step (a .next) (a .store) x .told) e
-          ∙ step-cr (a .next) (a .store) c (fits p) (ap (λ (x : List ℕ). holds (after Waiting store x)) s ∙ holding q c (h, w .0, w .1))
+          ∙ ap (λ (z : After). z .told) (step-cr (a .next) (a .store) c (fits p) (ap (λ (x : List ℕ). holds (after Waiting store x)) s ∙ holding q c (h, w .0, w .1)))
           ∙ judge-accepts c h n .1 w

@@ -2,7 +2,7 @@
 use mathlib.Core.Path.{_≡_, refl, sym, ap, _∙_, subst}
 use mathlib.Core.Logic.{_⊎_, inl, inr, _↔_, _≢_}
 use mathlib.Core.List.{List, [], _∷_, _++_, append-assoc, head-eq-of-cons-eq, tail-eq-of-cons-eq}
-use Prim.Native.Nat.{ℕ, zero, suc, _+_, _-_, _%_, _≤_, _<_}
+use Prim.Native.Nat.{ℕ, zero, suc, _+_, _-_, _≤_, _<_}
 use native.Mathlib.Numerals.{add-one}
 use native.Mathlib.Decide.{decLt}
 use native.Mathlib.Omega.{arith}
@@ -161,18 +161,39 @@ info-in-store store s i j h n room f =
     lenid-room : (c : List ℕ) (h : Header) (n : ℕ) → Frames h n c → 12 + n ≤ length c
     lenid-room c h n f = omega (arith, f .2, ap length (f .1 .is), length-chars h (f .0))
 
+-- SOI, characters and CR, and what comes before and behind them
+unfoldable pub wire : List ℕ → List ℕ → List ℕ → List ℕ
+wire pre c post = pre ++ SOI ∷ (c ++ CR ∷ post)
+
+last : List ℕ → List ℕ → ℕ
+last pre c = length pre + suc (length c)
+
+closes : (pre c post : List ℕ) (h : Header) (n : ℕ) → Frames h n c → Closes (take (last pre c) (wire pre c post)) (getD (wire pre c post) (last pre c) 0) h n
+unfolding wire last
+closes pre c post h n f = (
+  getD-append-add pre (SOI ∷ (c ++ CR ∷ post)) (suc (length c)) 0 ∙ getD-append-seam c CR post 0,
+  pre,
+  c,
+  take-append-add pre (SOI ∷ (c ++ CR ∷ post)) (suc (length c)) ∙ ap (λ (x : List ℕ). pre ++ SOI ∷ x) (take-at c (CR ∷ post) (length c) refl),
+  f,
+)
+
+-- the characters of a frame in a stream are a stretch of it
+pub stretch-of : (pre c post : List ℕ) (h : Header) (n : ℕ) → Frames h n c → (i j : ℕ) → length pre ≡ i → j ≡ i + suc (length c)
+    → Stretch (wire pre c post) i j h n × (slice (suc i) j (wire pre c post) ≡ c)
+unfolding last closes
+stretch-of pre c post h n f i j e q =
+    let r = closes pre c post h n f in
+    let at : last pre c ≡ j = omega arith in
+    subst (λ (k : ℕ). Stretch (wire pre c post) k j h n × (slice (suc k) j (wire pre c post) ≡ c)) e
+    (subst (λ (k : ℕ). Stretch (wire pre c post) (length pre) k h n × (slice (suc (length pre)) k (wire pre c post) ≡ c)) at (stretch (wire pre c post) (last pre c) h n r))
+
 -- whatever came before, a frame that is sent is told at its CR: a broken reply never costs the next good one
 pub sent : (store pre c post : List ℕ) (h : Header) (n : ℕ) → 4110 ≤ length store → Frames h n c
     → toldAt store (pre ++ SOI ∷ (c ++ CR ∷ post)) (length pre + suc (length c)) ≡ frame h n
-unfolding toldAt
+unfolding toldAt wire last
 sent store pre c post h n room f =
-    heard store (take (length pre + suc (length c)) (pre ++ SOI ∷ (c ++ CR ∷ post))) (getD (pre ++ SOI ∷ (c ++ CR ∷ post)) (length pre + suc (length c)) 0) h n room .1 (
-      getD-append-add pre (SOI ∷ (c ++ CR ∷ post)) (suc (length c)) 0 ∙ getD-append-seam c CR post 0,
-      pre,
-      c,
-      take-append-add pre (SOI ∷ (c ++ CR ∷ post)) (suc (length c)) ∙ ap (λ (x : List ℕ). pre ++ SOI ∷ x) (take-at c (CR ∷ post) (length c) refl),
-      f,
-    )
+    heard store (take (last pre c) (wire pre c post)) (getD (wire pre c post) (last pre c) 0) h n room .1 (closes pre c post h n f)
 
 -- ---- a stretch of any characters: where a frame in it would be
 
@@ -190,62 +211,65 @@ before-in w post m h e =
     ]
 
 module _ (pre w post : List ℕ) (none : (x d : List ℕ) → Before w x → Since x d → Whole d → ⊥) where
-  stream : List ℕ
-  stream = pre ++ SOI ∷ (w ++ CR ∷ post)
-
-  last : ℕ
-  last = length pre + suc (length w)
-
   -- no whole encoding ends in it
-  none-ends : (i m : ℕ) (h : Header) (n : ℕ) → m ≤ suc (length w) → Stretch stream i (length pre + m) h n → ⊥
-  unfolding stream
+  none-ends : (i m : ℕ) (h : Header) (n : ℕ) → m ≤ suc (length w) → Stretch (wire pre w post) i (length pre + m) h n → ⊥
+  unfolding wire
   none-ends i zero h n l f = omega (arith, f .closes, getD-append-add pre (SOI ∷ (w ++ CR ∷ post)) 0 0)
   none-ends i (suc m) h n l f =
       let t = w ++ CR ∷ post in
-      let c = slice (suc i) (length pre + suc m) stream in
+      let s = wire pre w post in
+      let c = slice (suc i) (length pre + suc m) s in
       none (take m t) c
       (before-in w post m (omega arith) (sym (getD-append-add pre (SOI ∷ t) (suc m) 0) ∙ f .closes))
-      (since pre (take m t) (take i stream) c (hexy-frame h n c (f .frame)) (sym (take-append-add pre (SOI ∷ t) (suc m)) ∙ cut-stretch stream i (length pre + suc m) h n f))
+      (since pre (take m t) (take i s) c (hexy-frame h n c (f .frame)) (sym (take-append-add pre (SOI ∷ t) (suc m)) ∙ cut-stretch s i (length pre + suc m) h n f))
       (h, f .frame .0, f .frame .1)
 
   -- none goes on behind it: its CR would be a character
-  none-over : (i j : ℕ) (h : Header) (n : ℕ) → i ≤ last → last < j → Stretch stream i j h n → ⊥
-  unfolding stream last
+  none-over : (i j : ℕ) (h : Header) (n : ℕ) → i ≤ last pre w → last pre w < j → Stretch (wire pre w post) i j h n → ⊥
+  unfolding wire last
   none-over i j h n a b f =
-      let c = slice (suc i) j stream in
-      let k = last - suc i in
-      let ends : getD stream last 0 ≡ CR = getD-append-add pre (SOI ∷ (w ++ CR ∷ post)) (suc (length w)) 0 ∙ getD-append-seam w CR post 0 in
-      elim (decLt i last) [
-        | no m ↦ let e : i ≡ last = omega arith in omega (arith, f .opens, ap (λ (x : ℕ). getD stream x 0) e, ends)
+      let s = wire pre w post in
+      let c = slice (suc i) j s in
+      let at = last pre w in
+      let k = at - suc i in
+      let ends : getD s at 0 ≡ CR = getD-append-add pre (SOI ∷ (w ++ CR ∷ post)) (suc (length w)) 0 ∙ getD-append-seam w CR post 0 in
+      elim (decLt i at) [
+        | no m ↦ let e : i ≡ at = omega arith in omega (arith, f .opens, ap (λ (x : ℕ). getD s x 0) e, ends)
         | yes m ↦
             let g : getD c k 0 ≡ CR =
-            getD-drop (suc i) (take j stream) k 0
-            ∙ getD-take j stream (suc i + k) 0 (omega arith)
-            ∙ ap (λ (x : ℕ). getD stream x 0) (let e : suc i + k ≡ last = omega arith in e)
+            getD-drop (suc i) (take j s) k 0
+            ∙ getD-take j s (suc i + k) 0 (omega arith)
+            ∙ ap (λ (x : ℕ). getD s x 0) (let e : suc i + k ≡ at = omega arith in e)
             ∙ ends in
-            let t = length-slice (suc i) j stream (omega (arith, in-range stream j (f .closes))) in
+            let t = length-slice (suc i) j s (omega (arith, in-range s j (f .closes))) in
             not-hex c (take k c) CR (drop (suc k) c) (hexy-frame h n c (f .frame)) cr-odd
             (split-at c k 0 (omega (arith, t)) ∙ ap (λ (x : ℕ). take k c ++ x ∷ drop (suc k) c) g)
       ]
 
   -- so each ends before it or begins behind it
-  apart : (i j : ℕ) (h : Header) (n : ℕ) → Stretch stream i j h n → (j < length pre) ⊎ (last < i)
+  apart : (i j : ℕ) (h : Header) (n : ℕ) → Stretch (wire pre w post) i j h n → (j < length pre) ⊎ (last pre w < i)
   unfolding last
   apart i j h n f =
       elim (decLt j (length pre)) [
         | yes p ↦ inl p
         | no p ↦
-            elim (decLt last i) [
+            elim (decLt (last pre w) i) [
               | yes q ↦ inr q
               | no q ↦
-                  elim (decLt last j) [
+                  elim (decLt (last pre w) j) [
                     | yes r ↦ absurd (none-over i j h n (omega arith) r f)
                     | no r ↦
                         let m = j - length pre in
-                        absurd (none-ends i m h n (omega arith) (subst (λ (x : ℕ). Stretch stream i x h n) (let e : j ≡ length pre + m = omega arith in e) f))
+                        absurd (none-ends i m h n (omega arith) (subst (λ (x : ℕ). Stretch (wire pre w post) i x h n) (let e : j ≡ length pre + m = omega arith in e) f))
                   ]
             ]
       ]
+
+-- among hex characters there is no whole encoding but all of them
+pub only-all : (v : List ℕ) → Hexy v → (Whole v → ⊥) → (u d : List ℕ) → Before v u → Since u d → Whole d → ⊥
+only-all v h none u d (inl e) (inl f) q = none (subst Whole (sym f ∙ e) q)
+only-all v h none u d (inl e) (inr (z, f)) q = not-hex v z SOI d h soi-odd (sym e ∙ f)
+only-all v h none u d (inr (t, e)) s q = not-hex v u CR t h cr-odd e
 
 -- ---- one character changed, lost or doubled, in a whole encoding x, a, y
 
@@ -265,92 +289,109 @@ module _ (x : List ℕ) (a : ℕ) (y : List ℕ) (w : Whole (x ++ a ∷ y)) wher
       let k = odd-one x b y u CR t (parts .0) (parts .1 .1) cr-odd e in
       not-hex x z SOI d (parts .0) soi-odd (sym (k .0) ∙ f)
 
-  -- hex characters, and an odd number of them
-  odd-count : (v : List ℕ) → Hexy v → length v % 2 ≡ 1 → (u d : List ℕ) → Before v u → Since u d → Whole d → ⊥
-  odd-count v h o u d (inl e) (inl f) q = let k = whole-count d q in omega (arith, ap length (sym e ∙ f))
-  odd-count v h o u d (inl e) (inr (z, f)) q = not-hex v z SOI d h soi-odd (sym e ∙ f)
-  odd-count v h o u d (inr (t, e)) s q = not-hex v u CR t h cr-odd e
-
   drops : (u d : List ℕ) → Before (x ++ y) u → Since u d → Whole d → ⊥
   drops =
       let k = whole-count (x ++ a ∷ y) w in
-      odd-count (x ++ y) (hexy-join x y (parts .0) (parts .1 .1)) (omega (arith, length-append x y, length-append x (a ∷ y)))
+      only-all (x ++ y) (hexy-join x y (parts .0) (parts .1 .1)) (λ q. omega (arith, whole-count (x ++ y) q, length-append x y, length-append x (a ∷ y)))
 
   repeats : (u d : List ℕ) → Before (x ++ a ∷ a ∷ y) u → Since u d → Whole d → ⊥
   repeats =
       let k = whole-count (x ++ a ∷ y) w in
-      odd-count (x ++ a ∷ a ∷ y) (hexy-join x (a ∷ a ∷ y) (parts .0) (parts .1 .0, parts .1))
-      (omega (arith, length-append x (a ∷ a ∷ y), length-append x (a ∷ y)))
+      only-all (x ++ a ∷ a ∷ y) (hexy-join x (a ∷ a ∷ y) (parts .0) (parts .1 .0, parts .1))
+      (λ q. omega (arith, whole-count (x ++ a ∷ a ∷ y) q, length-append x (a ∷ a ∷ y), length-append x (a ∷ y)))
 
--- ---- the same at place k of a stream, between the SOI at i and the CR at j of a whole encoding
+pub doubled-at : (s : List ℕ) (k : ℕ) → k < length s → doubled k s ≡ take k s ++ getD s k 0 ∷ getD s k 0 ∷ drop (suc k) s
+doubled-at s k h =
+    let a = getD s k 0 in
+    (λ z. take-suc s k 0 h z ++ drop-cons s k 0 h z) ∙ append-snoc (take k s) a (a ∷ drop (suc k) s)
 
-module _ (s : List ℕ) (i j : ℕ) (h : Header) (n : ℕ) (f : Stretch s i j h n) (k : ℕ) (behind : i < k) (before : k < j) where
-  -- the characters before place k, and those behind it
-  x : List ℕ
-  x = slice (suc i) k s
+-- ---- the same in a stream, between the SOI at i and the CR at j of a whole encoding
 
-  y : List ℕ
-  y = slice (suc k) j s
-
-  long : j < length s
+module _ (s : List ℕ) (i j : ℕ) (h : Header) (n : ℕ) (f : Stretch s i j h n) where
+  pub long : j < length s
   long = in-range s j (f .closes)
 
-  parted : slice (suc i) j s ≡ x ++ getD s k 0 ∷ y
-  unfolding x y
-  parted =
-      let at : take j s ≡ take k s ++ getD s k 0 ∷ y =
-      split-at (take j s) k 0 (omega (arith, length-take-le j s (omega (arith, long)))) ∙ (λ t. take-take k j s (omega arith) t ++ getD-take j s k 0 before t ∷ y) in
-      ap (drop (suc i)) at ∙ drop-append-le (suc i) (take k s) (getD s k 0 ∷ y) (omega (arith, length-take-le k s (omega (arith, long))))
+  pub size : length (slice (suc i) j s) ≡ 16 + n
+  size = omega (arith, f .frame .2, ap length (f .frame .1 .is), length-chars h (f .frame .0))
 
-  whole : Whole (x ++ getD s k 0 ∷ y)
-  whole = subst Whole parted (h, f .frame .0, f .frame .1)
+  pub span : j ≡ i + (17 + n)
+  span = omega (arith, size, length-slice (suc i) j s (omega (arith, long)), f .order)
 
-  lenid-is : lenid (x ++ getD s k 0 ∷ y) ≡ n
-  lenid-is = ap lenid (sym parted) ∙ chars-read h (f .frame .0) (slice (suc i) j s) (f .frame .1) .2 ∙ sym (f .frame .2)
+  pub whole-of : Whole (slice (suc i) j s)
+  whole-of = (h, f .frame .0, f .frame .1)
 
-  -- with m in the place of the character
-  module _ (m : List ℕ) (none : (u d : List ℕ) → Before (x ++ (m ++ y)) u → Since u d → Whole d → ⊥) where
-    within : take k s ++ (m ++ drop (suc k) s) ≡ stream (take i s) (x ++ (m ++ y)) (drop (suc j) s) none
-    unfolding x y stream
-    within =
+  pub lenid-of : lenid (slice (suc i) j s) ≡ n
+  lenid-of = chars-read h (f .frame .0) (slice (suc i) j s) (f .frame .1) .2 ∙ sym (f .frame .2)
+
+  pub left : (p : ℕ) → p ≤ j → drop p s ≡ slice p j s ++ CR ∷ drop (suc j) s
+  left p l =
+      ap (drop p) (split-at s j 0 long)
+      ∙ drop-append-le p (take j s) (getD s j 0 ∷ drop (suc j) s) (omega (arith, length-take-le j s (omega (arith, long))))
+      ∙ ap (λ (b : ℕ). slice p j s ++ b ∷ drop (suc j) s) (f .closes)
+
+  -- with w in the place of its characters, and no whole encoding in them
+  pub none-in : (w t : List ℕ) → t ≡ wire (take i s) w (drop (suc j) s) → ((u d : List ℕ) → Before w u → Since u d → Whole d → ⊥)
+      → (ends : ℕ) → ends ≡ i + suc (length w) → (l e : ℕ) (g : Header) (q : ℕ) → Stretch t l e g q → (e < i) ⊎ (ends < l)
+  unfolding last
+  none-in w t is none ends at l e g q d =
+      let pre = length-take-le i s (omega (arith, long, f .order)) in
+      go (length (take i s)) (last (take i s) w) pre (omega (arith, pre)) (apart (take i s) w (drop (suc j) s) none l e g q (subst (λ (z : List ℕ). Stretch z l e g q) is d))
+    where
+      go : (p r : ℕ) → p ≡ i → r ≡ ends → (e < p) ⊎ (r < l) → (e < i) ⊎ (ends < l)
+      go p r u v (inl z) = inl (omega arith)
+      go p r u v (inr z) = inr (omega arith)
+
+  -- at place k
+  module _ (k : ℕ) (behind : i < k) (before : k < j) where
+    -- the characters before it, and those behind it
+    abbrev pub x : List ℕ
+    x = slice (suc i) k s
+
+    abbrev pub y : List ℕ
+    y = slice (suc k) j s
+
+    pub parted : slice (suc i) j s ≡ x ++ getD s k 0 ∷ y
+    parted =
+        let at : take j s ≡ take k s ++ getD s k 0 ∷ y =
+        split-at (take j s) k 0 (omega (arith, length-take-le j s (omega (arith, long)))) ∙ (λ t. take-take k j s (omega arith) t ++ getD-take j s k 0 before t ∷ y) in
+        ap (drop (suc i)) at ∙ drop-append-le (suc i) (take k s) (getD s k 0 ∷ y) (omega (arith, length-take-le k s (omega (arith, long))))
+
+    pub whole : Whole (x ++ getD s k 0 ∷ y)
+    whole = subst Whole parted whole-of
+
+    lenid-is : lenid (x ++ getD s k 0 ∷ y) ≡ n
+    lenid-is = ap lenid (sym parted) ∙ lenid-of
+
+    -- with m in the place of the character
+    pub within : (m : List ℕ) → take k s ++ (m ++ drop (suc k) s) ≡ wire (take i s) (x ++ (m ++ y)) (drop (suc j) s)
+    unfolding wire
+    within m =
         let post = drop (suc j) s in
-        let rest : drop (suc k) s ≡ y ++ CR ∷ post =
-        ap (drop (suc k)) (split-at s j 0 long)
-        ∙ drop-append-le (suc k) (take j s) (getD s j 0 ∷ post) (omega (arith, length-take-le j s (omega (arith, long))))
-        ∙ ap (λ (b : ℕ). y ++ b ∷ post) (f .closes) in
-        (λ t. cut s i k behind (omega (arith, long)) (f .opens) t ++ (m ++ rest t))
+        (λ t. cut s i k behind (omega (arith, long)) (f .opens) t ++ (m ++ left (suc k) before t))
         ∙ append-assoc (take i s) (SOI ∷ x) (m ++ (y ++ CR ∷ post))
         ∙ ap (λ (z : List ℕ). take i s ++ SOI ∷ (x ++ z)) (sym (append-assoc m y (CR ∷ post)))
         ∙ ap (λ (z : List ℕ). take i s ++ SOI ∷ z) (sym (append-assoc x (m ++ y) (CR ∷ post)))
 
-    damaged : (ends : ℕ) → suc ends ≡ j + length m → (l e : ℕ) (g : Header) (q : ℕ) → Stretch (take k s ++ (m ++ drop (suc k) s)) l e g q → (e < i) ⊎ (ends < l)
-    unfolding x y last
-    damaged ends at l e g q t =
-        let pre = length-take-le i s (omega (arith, long)) in
+    damaged : (m : List ℕ) → ((u d : List ℕ) → Before (x ++ (m ++ y)) u → Since u d → Whole d → ⊥) → (ends : ℕ) → suc ends ≡ j + length m
+        → (l e : ℕ) (g : Header) (q : ℕ) → Stretch (take k s ++ (m ++ drop (suc k) s)) l e g q → (e < i) ⊎ (ends < l)
+    damaged m none ends at =
         let size =
         length-append x (m ++ y) ∙ (λ z. length-slice (suc i) k s (omega (arith, long)) z + (length-append m y ∙ ap (λ (w : ℕ). length m + w) (length-slice (suc k) j s (omega (arith, long)))) z) in
-        go (length (take i s)) (last (take i s) (x ++ (m ++ y)) (drop (suc j) s) none) pre (omega (arith, pre, size))
-        (apart (take i s) (x ++ (m ++ y)) (drop (suc j) s) none l e g q (subst (λ (z : List ℕ). Stretch z l e g q) within t))
-      where
-        go : (p r : ℕ) → p ≡ i → r ≡ ends → (e < p) ⊎ (r < l) → (e < i) ⊎ (ends < l)
-        go p r u v (inl z) = inl (omega arith)
-        go p r u v (inr z) = inr (omega arith)
+        none-in (x ++ (m ++ y)) (take k s ++ (m ++ drop (suc k) s)) (within m) none ends (omega (arith, size))
 
-  -- it becomes any other byte, and INFO has at most 936 characters where that byte is a tilde: each whole encoding ends before the stretch or begins behind it
-  pub one-changed : (b : ℕ) → (b ≡ SOI → n ≤ 936) → b ≢ getD s k 0 → (l e : ℕ) (g : Header) (q : ℕ) → Stretch (set s k b) l e g q → (e < i) ⊎ (j < l)
-  one-changed b short ne l e g q t =
-      damaged (b ∷ []) (changed x (getD s k 0) y whole b (λ z. rw lenid-is (short z)) (λ z. ne (sym z))) j (omega arith) l e g q
-      (subst (λ (z : List ℕ). Stretch z l e g q) (set-split s k b (omega (arith, long))) t)
+    -- it becomes any other byte, and INFO has at most 936 characters where that byte is a tilde: each whole encoding ends before the stretch or begins behind it
+    pub one-changed : (b : ℕ) → (b ≡ SOI → n ≤ 936) → b ≢ getD s k 0 → (l e : ℕ) (g : Header) (q : ℕ) → Stretch (set s k b) l e g q → (e < i) ⊎ (j < l)
+    one-changed b short ne l e g q t =
+        damaged (b ∷ []) (changed x (getD s k 0) y whole b (λ z. rw lenid-is (short z)) (λ z. ne (sym z))) j (omega arith) l e g q
+        (subst (λ (z : List ℕ). Stretch z l e g q) (set-split s k b (omega (arith, long))) t)
 
-  -- it is lost
-  pub one-lost : (l e : ℕ) (g : Header) (q : ℕ) → Stretch (lost k s) l e g q → (e < i) ⊎ (j - 1 < l)
-  one-lost = damaged [] (drops x (getD s k 0) y whole) (j - 1) (omega arith)
+    -- it is lost
+    pub one-lost : (l e : ℕ) (g : Header) (q : ℕ) → Stretch (lost k s) l e g q → (e < i) ⊎ (j - 1 < l)
+    one-lost = damaged [] (drops x (getD s k 0) y whole) (j - 1) (omega arith)
 
-  -- it is sent twice in a row
-  pub one-doubled : (l e : ℕ) (g : Header) (q : ℕ) → Stretch (doubled k s) l e g q → (e < i) ⊎ (suc j < l)
-  one-doubled l e g q t =
-      let a = getD s k 0 in
-      let rest = drop (suc k) s in
-      let same : doubled k s ≡ take k s ++ a ∷ a ∷ rest =
-      (λ z. take-suc s k 0 (omega (arith, long)) z ++ drop-cons s k 0 (omega (arith, long)) z) ∙ append-snoc (take k s) a (a ∷ rest) in
-      damaged (a ∷ a ∷ []) (repeats x a y whole) (suc j) (omega arith) l e g q (subst (λ (z : List ℕ). Stretch z l e g q) same t)
+    -- it is sent twice in a row
+    pub one-doubled : (l e : ℕ) (g : Header) (q : ℕ) → Stretch (doubled k s) l e g q → (e < i) ⊎ (suc j < l)
+    one-doubled l e g q t =
+        let a = getD s k 0 in
+        damaged (a ∷ a ∷ []) (repeats x a y whole) (suc j) (omega arith) l e g q
+        (subst (λ (z : List ℕ). Stretch z l e g q) (doubled-at s k (omega (arith, long))) t)

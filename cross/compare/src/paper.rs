@@ -29,7 +29,8 @@ fn frame(frame: reference::Frame) -> Event {
     }
 }
 
-fn event(event: reference::Event) -> Event {
+/// An event of the reference.
+pub fn event(event: reference::Event) -> Event {
     match event {
         reference::Event::Nothing => Event::default(),
         reference::Event::Frame(heard) => frame(heard),

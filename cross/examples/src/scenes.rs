@@ -4,10 +4,11 @@ use crate::stack::{frame, Stack, VER};
 use reference::seeded::Seeded;
 
 /// All captures by name.
-pub fn all() -> [(&'static str, Vec<u8>); 7] {
+pub fn all() -> [(&'static str, Vec<u8>); 8] {
     [
         ("stack", stack()),
         ("relay", relay()),
+        ("damage", damage()),
         ("lower", lower()),
         ("long", long()),
         ("noise", noise()),
@@ -76,6 +77,33 @@ fn relay() -> Vec<u8> {
     // A character is another one, once hex, once not.
     click(|reply| reply[33] = if reply[33] == b'0' { b'8' } else { b'0' });
     click(|reply| reply[50] = 0xFF);
+    line
+}
+
+/// The third digit of the first cell, behind tilde, header, LENGTH, flag, Command and M.
+const DIGIT: usize = 21;
+
+/// For docs/DAMAGE.md: one reply again and again, whole, with one damage each time, and whole again.
+fn damage() -> Vec<u8> {
+    let reply = Stack::new().analog(0x02);
+    let mut line = reply.clone();
+    let mut damaged = |damage: fn(&mut Vec<u8>)| {
+        let mut reply = reply.clone();
+        damage(&mut reply);
+        line.extend(reply);
+    };
+    // A character is another, is lost, comes twice.
+    damaged(|reply| reply[DIGIT] = b'8');
+    damaged(|reply| lose(reply, DIGIT..DIGIT + 1));
+    damaged(|reply| reply.insert(DIGIT, reply[DIGIT]));
+    // The tilde comes twice, the CR comes twice.
+    damaged(|reply| reply.insert(0, b'~'));
+    damaged(|reply| reply.push(b'\r'));
+    // Two neighbours are exchanged.
+    damaged(|reply| reply.swap(DIGIT, DIGIT + 1));
+    // It breaks off in the middle.
+    damaged(|reply| lose(reply, 70..reply.len()));
+    line.extend(&reply);
     line
 }
 

@@ -1,4 +1,4 @@
-//! The worked lines (PROTOCOL 12.2 to 12.9), and the example of a listing (PROTOCOL 11.7).
+//! The worked lines (PROTOCOL 12.2 to 12.9, 14.6), and the example of a listing (PROTOCOL 11.7).
 
 use crate::common::*;
 use reference::frame::{chksum, length};
@@ -51,6 +51,35 @@ fn code_04_from_adr_02() {
     assert_eq!(frame(0x21, 0x02, 0x46, 0x04, &[]), b"~210246040000FDAD\r");
     let reply = answered(&mut stack(&[0x02]), &ask(0x02, 0x47, &[]));
     assert_eq!(reply, b"~210246040000FDAD\r");
+}
+
+#[test]
+fn a_character_lost_and_one_doubled() {
+    assert_eq!(judge(b"002464F0000FD98"), Err(3));
+    assert_eq!(judge(b"2002464FF0000FD98"), Err(5));
+}
+
+#[test]
+fn exchanged_neighbours_in_ver() {
+    let judged = judge(b"0202464F0000FD98").unwrap();
+    assert_eq!((judged.header.ver, judged.header.adr), (0x02, 0x02));
+}
+
+#[test]
+fn exchanged_neighbours_in_a_cell() {
+    let cell = |reply: &[u8]| {
+        let mut table = stack(&[0x02]);
+        read(&mut table, (0x02, 0x42, 0x02), reply).unwrap();
+        table[0].analog.cells[0]
+    };
+    assert_eq!(
+        cell(b"2102460080260002010D45010BAA00000D45FDE802FDE80007F578"),
+        3_397
+    );
+    assert_eq!(
+        cell(b"2102460080260002010D54010BAA00000D45FDE802FDE80007F578"),
+        3_412
+    );
 }
 
 #[test]
