@@ -45,7 +45,8 @@ fn every_length_and_check(comparison: &mut Comparison) -> Done {
 }
 
 fn every_byte_in_every_place(comparison: &mut Comparison, seeded: &mut Seeded) -> Done {
-    for length in [0, 1, 2, 20] {
+    // 16 to 128 characters: whole multiples of 16 and 64 among them, by which a stretch may be judged
+    for length in [0, 1, 2, 8, 16, 20, 24, 25, 55, 56] {
         let right = made::stretch([0x21, 0x02, 0x46, 0x00], &seeded.bytes(length));
         for place in 0..right.len() {
             for byte in 0..=u8::MAX {
