@@ -1,77 +1,65 @@
--- What the loops over characters and bytes lean on: a turn, the end, and the characters of one byte more.
+-- What the loops over characters and bytes lean on: a turn, the end, blocks of characters, and the characters of one byte more.
 use mathlib.Core.Path.{_≡_, refl, sym, ap, ap₂, _∙_}
 use mathlib.Core.Bool.{Bool, true, false, _&&_, and-true, and-assoc}
 use mathlib.Core.List.{List, [], _∷_, _++_}
-use Prim.Native.Nat.{ℕ, _+_, _-_, _/_, _%_, _≤_, _<_}
+use Prim.Native.Nat.{ℕ, zero, suc, _+_, _-_, _/_, _%_, _≤_, _<_}
 use native.Mathlib.Omega.{arith}
 use native.Mathlib.Numerals.{add-one}
-use lib.ListN.{length, getD, take, drop, drop-of-length-le, take-append-drop}
+use lib.Bits.{bitOr, or-zero-l, or-add-and, and-le-r}
+use lib.Dec.{eqb, eqb·suc-zero}
+use lib.ListN.{length, getD, take, drop, drop-of-length-le}
 use lib.Seq.{take-suc, drop-drop}
-use Rattle.buffer.proofs.Lists.{left-at, never}
+use Rattle.buffer.proofs.Lists.{left-at}
 use Rattle.hex.specs.Hex.{isHex, charOf, allHex, pairOf, hexes, word}
 use Rattle.hex.proofs.Laws.{pair-hexes, hexes-join}
 
-pub all-turn : (s : List ℕ) (i : ℕ) (good here : Bool) → i < length s → here ≡ isHex (getD s i 0)
-    → ((good && here) && allHex (drop (i + 1) s)) ≡ (good && allHex (drop i s))
+some : (n : ℕ) → 0 < n → eqb n 0 ≡ false
+some zero h = absurd (omega arith)
+some (suc n) h = eqb·suc-zero n
+
+-- two numbers have no bit together if neither has one, and only then
+or-none : (a b : ℕ) → eqb (bitOr a b) 0 ≡ (eqb a 0 && eqb b 0)
+or-none zero b = ap (λ (n : ℕ). eqb n 0) (or-zero-l b)
+or-none (suc a) b = rw (eqb·suc-zero a) (some (bitOr (suc a) b) (omega (arith, or-add-and (suc a) b, and-le-r (suc a) b)))
+
+pub all-turn : (s : List ℕ) (i far here : ℕ) → i < length s → eqb here 0 ≡ isHex (getD s i 0)
+    → (eqb (bitOr far here) 0 && allHex (drop (i + 1) s)) ≡ (eqb far 0 && allHex (drop i s))
 unfolding allHex
-all-turn s i good here h e = rw (left-at s i h, e) (and-assoc good (isHex (getD s i 0)) (allHex (drop (i + 1) s)))
+all-turn s i far here h e = rw (left-at s i h, or-none far here, e) (and-assoc (eqb far 0) (isHex (getD s i 0)) (allHex (drop (i + 1) s)))
 
 pub all-end : (s : List ℕ) (i : ℕ) (good : Bool) → length s ≤ i → good ≡ (good && allHex (drop i s))
 unfolding allHex
 all-end s i good h = rw (drop-of-length-le s h) (sym (and-true good))
 
--- ---- blocks: what holds of both parts of a list holds of the list
+-- ---- blocks
 
-all-join : (s t : List ℕ) → allHex (s ++ t) ≡ (allHex s && allHex t)
+and-both : (a b c : Bool) → (b && c) ≡ c → ((a && b) && (a && c)) ≡ (a && c)
+and-both true b c e = e
+and-both false b c e = refl
+
+-- a first part says nothing that the list does not
+part : (s : List ℕ) (m : ℕ) → (allHex (take m s) && allHex s) ≡ allHex s
 unfolding allHex
-all-join [] t = refl
-all-join (c ∷ s) t = ap (λ (b : Bool). isHex c && b) (all-join s t) ∙ sym (and-assoc (isHex c) (allHex s) (allHex t))
+part s zero = refl
+part [] (suc m) = refl
+part (c ∷ s) (suc m) = and-both (isHex c) (allHex (take m s)) (allHex s) (part s m)
 
-all-cut : (s : List ℕ) (k : ℕ) → (allHex (take k s) && allHex (drop k s)) ≡ allHex s
-all-cut s k = sym (all-join (take k s) (drop k s)) ∙ ap allHex (take-append-drop k s)
-
-pub and-itself : (a : Bool) → (a && a) ≡ a
-and-itself true = refl
-and-itself false = refl
-
-and-again : (a b : Bool) → (b && (a && b)) ≡ (a && b)
-and-again true true = refl
-and-again true false = refl
-and-again false true = refl
-and-again false false = refl
-
-and-second : (a b : Bool) → (a && b) ≡ true → b ≡ true
-and-second true b e = e
-and-second false b e = never (cc)
-
--- the last block is looked at first: it says nothing that the list does not
-pub blocks-start : (s : List ℕ) (last : ℕ) → (allHex (drop last s) && allHex s) ≡ allHex s
-blocks-start s last =
-    ap (λ (b : Bool). allHex (drop last s) && b) (sym (all-cut s last)) ∙ and-again (allHex (take last s)) (allHex (drop last s)) ∙ all-cut s last
+-- two parts that leave nothing out
+pub overlap : (s : List ℕ) (k m : ℕ) → k ≤ m → (allHex (take m s) && allHex (drop k s)) ≡ allHex s
+unfolding allHex
+overlap s zero m h = part s m
+overlap [] (suc k) (suc m) h = refl
+overlap (c ∷ s) (suc k) (suc m) h = and-assoc (isHex c) (allHex (take m s)) (allHex (drop k s)) ∙ ap (λ (b : Bool). isHex c && b) (overlap s k m (omega arith))
+overlap s (suc k) zero h = absurd (omega arith)
 
 -- a block more
-pub blocks-turn : (s : List ℕ) (i k : ℕ) (good here : Bool) → here ≡ allHex (take k (drop i s))
-    → ((good && here) && allHex (drop (i + k) s)) ≡ (good && allHex (drop i s))
-blocks-turn s i k good here e =
-    and-assoc good here (allHex (drop (i + k) s))
-    ∙ ap (λ (b : Bool). good && (b && allHex (drop (i + k) s))) e
-    ∙ ap (λ (l : List ℕ). good && (allHex (take k (drop i s)) && allHex l)) (sym (drop-drop k i s))
-    ∙ ap (λ (b : Bool). good && b) (all-cut (drop i s) k)
-
--- good so far, the last block is good
-pub blocks-kept : (good here tail : Bool) → (good && tail) ≡ good → ((good && here) && tail) ≡ (good && here)
-blocks-kept true true tail e = e
-blocks-kept true false tail e = refl
-blocks-kept false here tail e = refl
-
--- what is left lies in the last block
-pub blocks-end : (s : List ℕ) (last i : ℕ) (good : Bool) → last ≤ i → (good && allHex (drop last s)) ≡ good → (good && allHex (drop i s)) ≡ allHex s → good ≡ allHex s
-blocks-end s last i false h kept e = e
-blocks-end s last i true h kept e =
-    let inside : allHex (drop i s) ≡ true =
-    let cut : drop (i - last) (drop last s) ≡ drop i s = drop-drop (i - last) last s ∙ (let k : last + (i - last) ≡ i = omega arith in ap (λ (n : ℕ). drop n s) k) in
-    ap allHex (sym cut) ∙ and-second (allHex (take (i - last) (drop last s))) (allHex (drop (i - last) (drop last s))) (all-cut (drop last s) (i - last) ∙ kept) in
-    sym inside ∙ e
+pub block-turn : (s : List ℕ) (i e : ℕ) (good : Bool) {here : Bool} → here ≡ allHex (take (e - i) (drop i s)) → i ≤ e
+    → ((good && here) && allHex (drop e s)) ≡ (good && allHex (drop i s))
+block-turn s i e good {here} is h =
+    let cut : drop (e - i) (drop i s) ≡ drop e s = drop-drop (e - i) i s ∙ (let there : i + (e - i) ≡ e = omega arith in ap (λ (n : ℕ). drop n s) there) in
+    and-assoc good here (allHex (drop e s))
+    ∙ ap₂ (λ (b : Bool) (l : List ℕ). good && (b && allHex l)) is (sym cut)
+    ∙ ap (λ (b : Bool). good && b) (overlap (drop i s) (e - i) (e - i) (omega arith))
 
 pub pair-two : (b : ℕ) {x y : ℕ} → x ≡ charOf (b / 16 % 16) → y ≡ charOf (b % 16 % 16) → (b < 256) → (x ∷ []) ++ (y ∷ []) ≡ pairOf b
 unfolding pairOf

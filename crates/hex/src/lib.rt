@@ -1,12 +1,13 @@
 // Hex characters, upper case only: what a character says, a digit's character, and bytes and words by their characters.
 
 ghost use mathlib.Core.Path.{_≡_};
-ghost use Prim.Native.Nat.{_+_, _-_, _%_, _<_, min};
+ghost use Prim.Native.Nat.{_+_, _-_, _%_, _<_, _≤_, min};
 ghost use lib.ListN.{length};
+ghost use lib.Dec.{eqb};
 ghost use Rattle.buffer.specs.Put.{Room, Put};
 ghost use Rattle.hex.specs.Hex.{isHex, digitOf, charOf, byteOf, byteAt, wordAt, allHex, pairOf, hexes, word};
 
-// The characters that are judged at once.
+// The characters of a block where there are many.
 const BLOCK: usize = 64;
 
 // How far a number is above another: 0 where it is not.
@@ -22,14 +23,14 @@ fn lesser(a: u8, b: u8) -> u8
     if a < b { a } else { b }
 }
 
-// Whether a character is hex: how far it is from the digits and from the letters, the lesser of both. The machine has such differences
-// of sixteen bytes at once, but no comparison of unsigned ones.
-fn is_hex(c: u8) -> bool
-    ensures { λ r. ⌜ r ≡ isHex c ⌝ }
+// How far a character is above the digits or above the letters, the lesser of both, counted round past 255: 0 where it is hex. The
+// machine has such differences of sixteen bytes at once, but no comparison of unsigned ones.
+fn distance(c: u8) -> u8
+    ensures { λ r. ⌜ eqb r 0 ≡ isHex c ⌝ }
 {
     let digit = above(std::num::wrapping_sub_u8(c, 48), 9);
     let letter = above(std::num::wrapping_sub_u8(c, 65), 5);
-    lesser(digit, letter) == 0
+    lesser(digit, letter)
 }
 
 // The digit that a hex character says. No branch: which characters are letters cannot be foreseen.
@@ -70,35 +71,58 @@ pub fn word_at(s: &[u8], at: usize) -> u16
     byte_at(s, at) as u16 * 256 + byte_at(s, at + 2) as u16
 }
 
-// Whether every character of a block is hex. No early exit, so that the loop is compiled to vector code.
+// Whether every character of a block is hex: the distances together have a bit where one of them has it, and only all together are
+// compared with 0. No early exit, so that the loop is compiled to vector code.
 fn all_hex_in(s: &[u8]) -> bool
     ensures { λ r. ⌜ r ≡ allHex (now (s .entry)) ⌝ }
 {
-    let mut good = true;
+    let mut far: u8 = 0;
     let mut i: usize = 0;
     while i < s.len() {
-        good = good & is_hex(s[i]);
+        far = far | distance(s[i]);
         i += 1;
+    }
+    far == 0
+}
+
+// Whether every character is hex, by two blocks: the characters at the start and those at the end, which may overlap.
+fn all_hex_at_ends(s: &[u8], block: usize) -> bool
+    requires { ⌜ (block ≤ length (now s)) × (length (now s) ≤ block + block) ⌝ }
+    ensures { λ r. ⌜ r ≡ allHex (now (s .entry)) ⌝ }
+{
+    let last = s.len() - block;
+    all_hex_in(&s[..block]) & all_hex_in(&s[last..])
+}
+
+// Whether every character is hex, by many blocks, the second of which may begin inside the first, so that none is shorter.
+fn all_hex_by_blocks(s: &[u8]) -> bool
+    requires { ⌜ 64 ≤ length (now s) ⌝ }
+    ensures { λ r. ⌜ r ≡ allHex (now (s .entry)) ⌝ }
+{
+    let mut good = all_hex_in(&s[..BLOCK]);
+    let mut i = s.len() % BLOCK;
+    while i < s.len() {
+        let e = i + BLOCK;
+        good = good & all_hex_in(&s[i..e]);
+        i = e;
     }
     good
 }
 
-// Whether every character is hex: by blocks, the last of which may begin inside the one before, so that none is shorter.
+// Whether every character is hex. The judge asks only of 16 characters and more, so that the compiler leaves the first case out there.
 pub fn all_hex(s: &[u8]) -> bool
     ensures { λ r. ⌜ r ≡ allHex (now (s .entry)) ⌝ }
 {
-    if s.len() < BLOCK {
+    if s.len() < 16 {
         return all_hex_in(s);
     }
-    let last = s.len() - BLOCK;
-    let mut good = all_hex_in(&s[last..]);
-    let mut i: usize = 0;
-    while BLOCK <= s.len() - i {
-        let e = i + BLOCK;
-        good = good & all_hex_in(&s[i..e]);
-        i += BLOCK;
+    if s.len() < 32 {
+        return all_hex_at_ends(s, 16);
     }
-    good
+    if s.len() < BLOCK {
+        return all_hex_at_ends(s, 32);
+    }
+    all_hex_by_blocks(s)
 }
 
 // Puts the two characters of a byte.

@@ -1,10 +1,10 @@
--- A character with no distance from the digits or from the letters is one of them.
+-- No distance from the digits or none from the letters: it is one of them.
 use mathlib.Core.Path.{_∙_, ap₂}
 use Prim.Native.Nat.{ℕ, min}
 use borrow.Author.Needs.{needs}
 use Rattle.hex.proofs.Laws.{far-hex}
-use Rattle.hex.proofs.is_hex.Statement.{statement}
-use Rattle.hex.proofs.is_hex.Tie as tie
+use Rattle.hex.proofs.distance.Statement.{statement}
+use Rattle.hex.proofs.distance.Tie as tie
 
 wrapping-sub-u8-requires : tie.Need-wrapping-sub-u8-requires
 wrapping-sub-u8-requires c κs = search needs
@@ -29,8 +29,8 @@ returns c =
     far-hex (start .args .c) (digit .result) (letter .result) (c .lesser .result) (search needs) (search needs) (search needs) (digit .ensures) (letter .ensures)
     (c .lesser .ensures ∙ ap₂ (λ (u v : ℕ). min u v) (c .before .before .before .above .ensures) (c .before .above2 .ensures))
 
-pub is-hex-spec : {M : Type 1} → statement M
-is-hex-spec =
+pub distance-spec : {M : Type 1} → statement M
+distance-spec =
     tie.close
     (tie.spec
     wrapping-sub-u8-requires
