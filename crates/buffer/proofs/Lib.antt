@@ -1,3 +1,4 @@
 pub mod Lists
+pub mod Scans
 pub mod Puts
 pub mod Writers

@@ -17,7 +17,8 @@ use Rattle.command.specs.Heard.{words}
 use Rattle.command.proofs.Forms.{by-cid2}
 use Rattle.reply.specs.declared.gate.Question.{Question}
 use Rattle.reply.specs.Gate.{gate}
-use Rattle.reply.specs.Read.{Data, Left, took, given, readReply}
+use Rattle.reply.specs.Read.{Data, Left, took, given, byCode, readReply}
+use Rattle.reply.proofs.Ways.{by-gate}
 use Rattle.flat.specs.Flat.{replyOf}
 use Rattle.entries.specs.Entries.{carriesRecords, changesRecords}
 
@@ -71,9 +72,9 @@ module _ (q : Question) (ms : List Module) where
       let w = words stretch in
       let info = unhexes (infoAt (w .lenid) stretch) in
       by-cond Kept keeps
-      (λ _. by-cond Kept (eqb (gate ms q w) 0)
-      (λ _. by-cond Kept (eqb (w .header .cid2) 0)
+      (λ _. by-gate Kept (gate ms q w) ms (byCode ms q w info)
+      (by-cond Kept (eqb (w .header .cid2) 0)
       (λ _. by-told (w .header .ver) (took (formOf (q .cid2) (q .command)) ms (q .adr) info) (no-records ms (q .adr) info (q .cid2) (q .command)))
       (λ _ e. refl))
-      (λ _ e. refl))
+      (λ why e. refl))
       (λ _ e. refl)

@@ -14,7 +14,7 @@ use Rattle.hex.specs.Hex.{allHex, hexes, word, byteAt, wordAt, unhexes, Bytes}
 use Rattle.hex.proofs.Laws.{Hexy, hexy-yes, yes-hexy, hexy-join, hexy-hexes, length-hexes, hexes-join, byte-pair, word-pairs, word-hexes, word-seam, bytes-word, bytes-cut, bytes-unhexes, hexes-unhexes}
 use Rattle.frame.specs.declared.Header.{Header}
 use Rattle.frame.specs.Frame.{lchksum, lengthOf, chksum, packed, seal, chars, Encodes, Whole, Frames}
-use Rattle.frame.specs.Judge.{Told, frame, refused, need, header, lenid, judge}
+use Rattle.frame.specs.Judge.{Told, isRefusal, frame, refused, need, header, lenid, judge}
 
 -- ---- the seven tests, as facts
 
@@ -74,6 +74,17 @@ good-judge c g =
     ∙ need-yes _ 6 _ (yes-eqb (g .even))
     ∙ need-yes _ 7 _ (yes-eqb (g .count))
     ∙ need-yes _ 8 _ (yes-eqb (g .check))
+
+-- what is not refused is the frame
+pub accepted : (c : List ℕ) → isRefusal (judge c) ≡ false → judge c ≡ frame (header c) (lenid c)
+unfolding judge
+accepted c = passes _ 1 _ (passes _ 3 _ (passes _ 4 _ (passes _ 5 _ (passes _ 6 _ (passes _ 7 _ (passes _ 8 _ (λ _. refl)))))))
+  where
+    Is : Told → Type 0
+    Is t = isRefusal t ≡ false → t ≡ frame (header c) (lenid c)
+
+    passes : (b : Bool) (n : ℕ) (t : Told) → Is t → Is (need b n t)
+    passes b n t rest = need-by Is b n t (λ _. rest) (λ _ no. never (cc))
 
 -- ---- LENGTH and CHKSUM are of sixteen bits
 

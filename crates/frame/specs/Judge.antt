@@ -18,6 +18,11 @@ pub data Told : Type 0 where
   frame : Header → ℕ → Told
   refused : ℕ → Told
 
+abbrev pub isRefusal : Told → Bool
+isRefusal nothing = false
+isRefusal (frame h n) = false
+isRefusal (refused k) = true
+
 -- the paper's number and values of a judgement
 abbrev pub paper : Judged → Told
 paper (Frame h n) = frame h n

@@ -43,8 +43,8 @@ use Rattle.reply.specs.declared.gate.Question.{Question}
 use Rattle.reply.specs.declared.Outcome.{Outcome}
 use Rattle.reply.specs.declared.Outcome.the-variants.{Read}
 use Rattle.reply.specs.declared.Reading.{Reading}
-use Rattle.reply.specs.Gate.{isReturnCode, asks, gate, frameGate}
-use Rattle.reply.specs.Read.{Data, Left, leaves, read, refused, paper, took, forAll, given, readReply, Reads}
+use Rattle.reply.specs.Gate.{Gated, passed, refused as gateRefused, isReturnCode, asks, gate, frameGate}
+use Rattle.reply.specs.Read.{Data, Left, leaves, read, refused, paper, took, forAll, given, unless, readReply, Reads}
 use Rattle.reply.proofs.Ways.{gate-passes}
 use Rattle.meet.specs.Asked.{asking, AskedBytes, faultFor}
 use Rattle.meet.specs.Read.{Again}
@@ -139,31 +139,31 @@ module _ (ms : List Module) (adr : ℕ) (there : placeOf adr ms < length ms) (in
 -- ---- what the reader's answer tells of the stretch
 
 -- it was read: the table keeps its rule, the gate was passed, the code is 00H, and the data were taken
-read-inv : (kept passed : Bool) (code ver ver′ flag : ℕ) (k : ℕ) (maker : List ℕ) (ms ns : List Module) (zero-code : Bool) → eqb code 0 ≡ zero-code → (t : Told Data)
-    → leaves (read ver 0 flag) maker ns ≡ cond kept (cond passed (cond zero-code (given ver′ ms t) (leaves (read ver′ code 0) noMaker ms)) (leaves (refused k) noMaker ms)) (leaves (refused 31) noMaker ms)
-    → (passed ≡ true) × (code ≡ 0) × (ver′ ≡ ver) × (t ≡ told (flag, (maker, ns)))
-read-inv false passed code ver ver′ flag k maker ms ns zero-code z t e = let o : read ver 0 flag ≡ refused 31 = ap (λ (l : Left). l .outcome) e in never (cc)
-read-inv true false code ver ver′ flag k maker ms ns zero-code z t e = let o : read ver 0 flag ≡ refused k = ap (λ (l : Left). l .outcome) e in never (cc)
-read-inv true true code ver ver′ flag k maker ms ns false z t e =
+read-inv : (kept : Bool) (gated : Gated) (code ver ver′ flag : ℕ) (maker : List ℕ) (ms ns : List Module) (zero-code : Bool) → eqb code 0 ≡ zero-code → (t : Told Data)
+    → leaves (read ver 0 flag) maker ns ≡ cond kept (unless gated ms (cond zero-code (given ver′ ms t) (leaves (read ver′ code 0) noMaker ms))) (leaves (refused 31) noMaker ms)
+    → (gated ≡ passed) × (code ≡ 0) × (ver′ ≡ ver) × (t ≡ told (flag, (maker, ns)))
+read-inv false gated code ver ver′ flag maker ms ns zero-code z t e = let o : read ver 0 flag ≡ refused 31 = ap (λ (l : Left). l .outcome) e in never (cc)
+read-inv true (gateRefused k) code ver ver′ flag maker ms ns zero-code z t e = let o : read ver 0 flag ≡ refused k = ap (λ (l : Left). l .outcome) e in never (cc)
+read-inv true passed code ver ver′ flag maker ms ns false z t e =
     let o : read ver 0 flag ≡ read ver′ code 0 = ap (λ (l : Left). l .outcome) e in
     let c : code ≡ 0 = cc in
     let same : eqb 0 0 ≡ false = ap (λ (x : ℕ). eqb x 0) (sym c) ∙ z in
     never (cc)
-read-inv true true code ver ver′ flag k maker ms ns true z (refuse j) e = let o : read ver 0 flag ≡ refused j = ap (λ (l : Left). l .outcome) e in never (cc)
-read-inv true true code ver ver′ flag k maker ms ns true z (told x) e =
+read-inv true passed code ver ver′ flag maker ms ns true z (refuse j) e = let o : read ver 0 flag ≡ refused j = ap (λ (l : Left). l .outcome) e in never (cc)
+read-inv true passed code ver ver′ flag maker ms ns true z (told x) e =
     let o : read ver 0 flag ≡ read ver′ 0 (x .0) = ap (λ (l : Left). l .outcome) e in
     let v : ver′ ≡ ver = cc in
     let f : x .0 ≡ flag = cc in
     let back = sym e in
     (refl, eqb-true code 0 z, v, λ i. told (f i, (back i .maker, back i .modules)))
 
-gate-inv : (asked there adr cid1 known beside : Bool) → cond {A = ℕ} (not asked) 34 (cond (not there) 23 (cond (not adr) 11 (cond (not cid1) 12 (cond (not known) 13 (cond beside 14 0))))) ≡ 0
+gate-inv : (asked there adr cid1 known beside : Bool) → cond (not asked) (gateRefused 34) (cond (not there) (gateRefused 23) (cond (not adr) (gateRefused 11) (cond (not cid1) (gateRefused 12) (cond (not known) (gateRefused 13) (cond beside (gateRefused 14) passed))))) ≡ passed
     → (there ≡ true) × (adr ≡ true) × (cid1 ≡ true)
 gate-inv true true true true known beside e = (refl, refl, refl)
-gate-inv true true true false known beside e = absurd (omega arith)
-gate-inv true true false cid1 known beside e = absurd (omega arith)
-gate-inv true false adr cid1 known beside e = absurd (omega arith)
-gate-inv false there adr cid1 known beside e = absurd (omega arith)
+gate-inv true true true false known beside e = never (cc)
+gate-inv true true false cid1 known beside e = never (cc)
+gate-inv true false adr cid1 known beside e = never (cc)
+gate-inv false there adr cid1 known beside e = never (cc)
 
 module _ (t : Table) (q : Question) (c : List ℕ) (reading : Reading) (reads : Reads (readReply (keeps t) (members t) q c) t reading) (ver : ℕ) (was-read : reading .outcome ≡ Read ver 0 0) where
   -- the frame that was read
@@ -181,12 +181,11 @@ module _ (t : Table) (q : Question) (c : List ℕ) (reading : Reading) (reads : 
       let w = words c in
       let left : leaves (read ver 0 0) (reading .maker) (members (reading .table)) ≡ readReply (keeps t) ms q c =
       ap (λ (o : Outcome). leaves (paper o) (reading .maker) (members (reading .table))) (sym was-read) ∙ reads .is in
-      let r = read-inv (keeps t) (eqb (gate ms q w) 0) (w .header .cid2) ver (w .header .ver) 0 (gate ms q w) (reading .maker) ms (members (reading .table)) _ refl _ left in
-      let g = eqb-true (gate ms q w) 0 (r .0) in
-      let f = gate-passes c w refl ms q g in
+      let r = read-inv (keeps t) (gate ms q w) (w .header .cid2) ver (w .header .ver) 0 (reading .maker) ms (members (reading .table)) _ refl _ left in
+      let f = gate-passes c w refl ms q (r .0) in
       let h = header c in
       let same = words-of h (f .0) c (f .1) in
-      let p = gate-inv (asks q) (hasMember (q .adr) ms) (eqb (h .adr) (q .adr)) (eqb (h .cid1) 0x46) (isReturnCode (h .cid2)) (not (eqb (h .cid2) 0) && not (eqb (2 * length (f .0)) 0)) (ap (gate ms q) same ∙ g) in
+      let p = gate-inv (asks q) (hasMember (q .adr) ms) (eqb (h .adr) (q .adr)) (eqb (h .cid1) 0x46) (isReturnCode (h .cid2)) (not (eqb (h .cid2) 0) && not (eqb (2 * length (f .0)) 0)) (ap (gate ms q) same ∙ r .0) in
       let v : h .ver ≡ ver = ap (λ (x : Words). x .header .ver) same ∙ r .2 in
       let a : h .adr ≡ q .adr = eqb-true (h .adr) (q .adr) (p .1) in
       let d : h .cid1 ≡ 0x46 = eqb-true (h .cid1) 0x46 (p .2) in

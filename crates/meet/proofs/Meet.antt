@@ -36,9 +36,9 @@ use Rattle.standin.proofs.Replies.{said-on}
 use Rattle.standin.proofs.Members.{member-in}
 use Rattle.reply.specs.declared.gate.Question.{Question}
 use Rattle.reply.specs.declared.Reading.{Reading}
-use Rattle.reply.specs.Gate.{isReturnCode, asks, gate, frameGate}
+use Rattle.reply.specs.Gate.{isReturnCode, asks, passed, gate, frameGate}
 use Rattle.reply.specs.Read.{Left, leaves, read, paper, took, given, readReply, Reads}
-use Rattle.reply.proofs.Ways.{way-open}
+use Rattle.reply.proofs.Ways.{way}
 use Rattle.meet.specs.Copied.{OfBytes, copied, makerFor, Alike}
 use Rattle.meet.specs.Read.{ownQuestion, Takes, IsRead}
 use Rattle.meet.proofs.Codes.{said-known}
@@ -117,7 +117,7 @@ words-of h info c e =
 -- ---- the reader's gate
 gate-open : (ms : List Module) (q : Question) (h : Header) (info c : List ℕ) → asks q ≡ true → hasMember (q .adr) ms ≡ true
     → h .adr ≡ q .adr → h .cid1 ≡ 0x46 → isReturnCode (h .cid2) ≡ true → (not (eqb (h .cid2) 0) && not (eqb (2 * length info) 0)) ≡ false
-    → 0 ≡ gate ms q (wordsFor h info c)
+    → passed ≡ gate ms q (wordsFor h info c)
 unfolding gate frameGate
 gate-open ms q h info c e1 e2 e3 e4 e5 e6 = rw (e1, e2, eq-eqb (h .adr) (q .adr) e3, eq-eqb (h .cid1) 0x46 e4, e5, e6)
 
@@ -139,7 +139,7 @@ module _ (st : Station) (bytes : OfBytes st) (ms ms′ : List Module) (kept : ru
       let e = reply-encodes st bytes ms kept w small code said in
       let open-gate = gate-open ms′ q h info c asked there (sym at) refl (said-known st ms w code said .0) (no-info (eqb code 0) (infoBy (kindAsked w) st ms (w .header .adr))) in
       let spelt : unhexes (infoAt (2 * length info) c) ≡ info = ap unhexes (info-at h info c e) ∙ unhexes-hexes info (e .body) in
-      sym (way-open true ms′ q c refl (wordsFor h info c) (words-of h info c e) open-gate)
+      sym (way true ms′ q c refl (wordsFor h info c) (words-of h info c e) passed open-gate)
       ∙ (λ i. cond (eqb code 0) (given (st .ver) ms′ (took (formOf (q .cid2) (q .command)) ms′ (q .adr) (spelt i))) (leaves (read (st .ver) code 0) noMaker ms′))
 
   pub data-is-read : code ≡ 0 → formOf (q .cid2) (q .command) ≡ kindAsked w → Alike (kindAsked w) ms ms′

@@ -14,7 +14,6 @@ use Rattle.standin.specs.Answer as Answer
 use Rattle.reply.specs.declared.gate.Entry as E
 use Rattle.reply.specs.declared.gate.Entry.the-variants.{Open, Refused as Shut}
 use Rattle.reply.specs.Gate as Gate
-use Rattle.reply.proofs.Ways.{number-some}
 use Rattle.reply.specs.declared.Outcome as O
 use Rattle.reply.specs.declared.Outcome.the-variants.{Read, Refused as Declined}
 use Rattle.reply.specs.declared.Reading.{Reading}
@@ -54,10 +53,10 @@ reading-one left t a b p q =
 
 entry-injective : (a b : E.Entry) → Gate.paper a ≡ Gate.paper b → a ≡ b
 entry-injective Open Open e = refl
-entry-injective Open (Shut r) e = absurd (number-some r (sym e))
-entry-injective (Shut q) Open e = absurd (number-some q e)
-entry-injective (Shut q) (Shut r) e = ap Shut (number-injective q r e)
+entry-injective Open (Shut r) e = never (cc)
+entry-injective (Shut q) Open e = never (cc)
+entry-injective (Shut q) (Shut r) e = let n : number q ≡ number r = cc in ap Shut (number-injective q r n)
 
 -- the gate
-pub gate-one : (n : ℕ) (a b : E.Entry) → Gate.paper a ≡ n → Gate.paper b ≡ n → a ≡ b
-gate-one n a b p q = entry-injective a b (p ∙ sym q)
+pub gate-one : (g : Gate.Gated) (a b : E.Entry) → Gate.paper a ≡ g → Gate.paper b ≡ g → a ≡ b
+gate-one g a b p q = entry-injective a b (p ∙ sym q)

@@ -35,7 +35,8 @@ use Rattle.command.specs.Heard.{words}
 use Rattle.reply.specs.declared.gate.Question.{Question}
 use Rattle.reply.specs.declared.Reading.{Reading}
 use Rattle.reply.specs.Gate.{gate}
-use Rattle.reply.specs.Read.{Data, Left, took, forAll, given, readReply, Reads}
+use Rattle.reply.specs.Read.{Data, Left, took, forAll, given, byCode, readReply, Reads}
+use Rattle.reply.proofs.Ways.{by-gate}
 use Rattle.meet.proofs.Kept.{Oks, replaced-rule, dealt-rule, analog-safe, alarm-safe, limits-safe, serial-safe, version-safe}
 
 -- the records that a reading would leave keep the rule
@@ -113,11 +114,11 @@ read-rule kept ms q stretch e =
     let info = unhexes (infoAt (w .lenid) stretch) in
     let P : Left → Type 0 = λ l. rule (l .modules) ≡ true in
     by-cond P kept
-    (λ a. by-cond P (eqb (gate ms q w) 0)
-    (λ b. by-cond P (eqb (w .header .cid2) 0)
+    (λ a. by-gate P (gate ms q w) ms (byCode ms q w info)
+    (by-cond P (eqb (w .header .cid2) 0)
     (λ d. given-rule (w .header .ver) ms e (took (formOf (q .cid2) (q .command)) ms (q .adr) info) (took-rule ms e (q .adr) info (bytes-unhexes (infoAt (w .lenid) stretch)) (formOf (q .cid2) (q .command))))
     (λ d. e))
-    (λ b. e))
+    (λ why. e))
     (λ a. e)
 
 -- over the reader's contract

@@ -1,4 +1,3 @@
-pub mod Scans
 pub mod Rows
 pub mod Running
 pub mod Storing

@@ -106,11 +106,11 @@ unfolding after
 after-join [] t r store = refl
 after-join (b ∷ s) t r store = let a = step r store b in after-join s t (a .next) (a .store)
 
-abbrev Opened : Option (List ℕ) → List ℕ → List ℕ → Type 0
+abbrev pub Opened : Option (List ℕ) → List ℕ → List ℕ → Type 0
 Opened o s c = ((q : List ℕ) × (s ≡ q ++ SOI ∷ c)) ⊎ ((d : List ℕ) × (o ≡ some d) × (c ≡ d ++ s))
 
 -- an open receiver holds what came since an SOI
-after-open : (s : List ℕ) (r : Receiver) (store c : List ℕ) → Fits r store → holds (after r store s) ≡ some c → Opened (held r store) s c
+pub after-open : (s : List ℕ) (r : Receiver) (store c : List ℕ) → Fits r store → holds (after r store s) ≡ some c → Opened (held r store) s c
 unfolding after
 after-open [] r store c f e = inr (c, e, sym (append-nil c))
 after-open (b ∷ s) r store c f e =

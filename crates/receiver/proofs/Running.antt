@@ -16,11 +16,11 @@ use Rattle.frame.specs.Frame.{SOI, CR}
 use Rattle.frame.specs.Judge.{nothing, refused}
 use Rattle.receiver.specs.declared.Receiver.{Receiver}
 use Rattle.receiver.specs.declared.Receiver.the-variants.{Waiting, Open}
-use Rattle.receiver.specs.Scan.{isSoi, isEnd, any, before}
+use Rattle.buffer.specs.Scan.{any, before}
 use Rattle.receiver.specs.Step.{Kind, soi, cr, other, kind, After, gives, stepBy, beyond, step}
 use Rattle.receiver.specs.Run.{isNothing, countOf, Run, ends, stops, later, stepping, run}
-use Rattle.receiver.specs.Pass.{moved, Passed}
-use Rattle.receiver.proofs.Scans.{or-first, or-second, before-le}
+use Rattle.receiver.specs.Pass.{isSoi, isEnd, moved, Passed}
+use Rattle.buffer.proofs.Scans.{or-first, or-second, before-le}
 use Rattle.receiver.proofs.Rows.{row-idle, row-more, step-within, within}
 
 withTaken : Run → ℕ → Run

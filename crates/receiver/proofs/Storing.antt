@@ -13,9 +13,9 @@ use borrow.Author.Tests.{eqb-true}
 use Rattle.buffer.specs.Put.{Put, puts}
 use Rattle.buffer.proofs.Puts.{put-then}
 use Rattle.receiver.specs.declared.Receiver.the-variants.{Open}
-use Rattle.receiver.specs.Scan.{isEnd, any, before}
-use Rattle.receiver.specs.Pass.{Stored, Passed}
-use Rattle.receiver.proofs.Scans.{before-one, before-le, before-drop, before-none-of, none-both}
+use Rattle.buffer.specs.Scan.{any, before}
+use Rattle.receiver.specs.Pass.{isEnd, Stored, Passed}
+use Rattle.buffer.proofs.Scans.{before-one, before-le, before-drop, before-none-of, none-both}
 use Rattle.receiver.proofs.Running.{passed-open}
 
 -- a copy of k bytes before the first SOI or CR

@@ -4,5 +4,4 @@ pub mod Stream
 pub mod Calls
 pub mod Demand
 pub mod Damage
-pub mod Scan
 pub mod Pass

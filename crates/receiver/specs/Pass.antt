@@ -1,13 +1,22 @@
 -- Nobody has to believe this page: words of proofs and of the contracts of private functions, for bytes between events that are passed many at a time.
 use mathlib.Core.Path.{_≡_}
+use mathlib.Core.Bool.{Bool, _||_}
 use mathlib.Core.List.{List}
 use Prim.Native.Nat.{ℕ, _+_, _≤_}
 use lib.ListN.{length, take, drop}
+use lib.Dec.{eqb}
 use Rattle.buffer.specs.Put.{Put}
+use Rattle.buffer.specs.Scan.{before}
+use Rattle.frame.specs.Frame.{SOI, CR}
 use Rattle.receiver.specs.declared.Receiver.{Receiver}
 use Rattle.receiver.specs.declared.Receiver.the-variants.{Waiting, Open}
 use Rattle.receiver.specs.Run.{countOf, later, stepping}
-use Rattle.receiver.specs.Scan.{isEnd, before}
+
+abbrev pub isSoi : ℕ → Bool
+isSoi x = eqb x SOI
+
+abbrev pub isEnd : ℕ → Bool
+isEnd x = eqb x SOI || eqb x CR
 
 -- a store that is long enough, and a count that it can hold: neither 32 nor 35
 abbrev pub Fits : Receiver → List ℕ → Type 0

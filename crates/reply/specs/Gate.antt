@@ -5,7 +5,7 @@ use Prim.Native.Nat.{ℕ}
 use lib.Dec.{leb, eqb}
 use Rattle.refusal.specs.Number.{number}
 use Rattle.record.specs.declared.Module.{Module}
-use Rattle.frame.specs.Judge.{Told, nothing, frame, refused}
+use Rattle.frame.specs.Judge.{Told, nothing, frame, refused as judgedRefused}
 use Rattle.table.specs.Table.{isMaster, hasMember}
 use Rattle.command.specs.Command.{kindOf, termsOf}
 use Rattle.command.specs.Heard.{Words}
@@ -23,32 +23,37 @@ asks q =
     let t = termsOf (kindOf (q .cid2)) in
     t .served && (not (t .«has_command») || (eqb (q .command) (q .adr) || (eqb (q .command) 0xFF && (t .«has_group» && isMaster (q .adr)))))
 
--- a line of the column: where the test holds, that number, else what follows; 0 is no refusal
-infixr 5 _refuses_else_
-abbrev pub _refuses_else_ : Bool → ℕ → ℕ → ℕ
-test refuses k else rest = cond test k rest
+-- the stretch passes, or it is refused with a number
+pub data Gated : Type 0 where
+  passed : Gated
+  refused : ℕ → Gated
 
-unfoldable pub frameGate : Question → Words → ℕ
+abbrev pub paper : Entry → Gated
+paper Open = passed
+paper (Refused r) = refused (number r)
+
+-- a line of the column: where the test holds, that number, else what follows
+infixr 5 _refuses_else_
+abbrev pub _refuses_else_ : Bool → ℕ → Gated → Gated
+test refuses k else rest = cond test (refused k) rest
+
+unfoldable pub frameGate : Question → Words → Gated
 frameGate q w =
     let code = w .header .cid2 in
     (not (eqb (w .header .adr) (q .adr))) refuses 11 else
     (not (eqb (w .header .cid1) 0x46)) refuses 12 else
     (not (isReturnCode code)) refuses 13 else
     (not (eqb code 0) && not (eqb (w .lenid) 0)) refuses 14 else
-    0
+    passed
 
 -- the judge's refusal, else what follows
-abbrev pub judgedFirst : Told → ℕ → ℕ
+abbrev pub judgedFirst : Told → Gated → Gated
 judgedFirst nothing rest = rest
 judgedFirst (frame h n) rest = rest
-judgedFirst (refused k) rest = k
+judgedFirst (judgedRefused k) rest = refused k
 
-unfoldable pub gate : List Module → Question → Words → ℕ
+unfoldable pub gate : List Module → Question → Words → Gated
 gate ms q w =
     (not (asks q)) refuses 34 else
     (not (hasMember (q .adr) ms)) refuses 23 else
     judgedFirst (w .told) (frameGate q w)
-
-abbrev pub paper : Entry → ℕ
-paper Open = 0
-paper (Refused r) = number r

@@ -24,7 +24,7 @@ use Rattle.reply.specs.declared.gate.Question.{Question}
 use Rattle.reply.specs.declared.Outcome.{Outcome}
 use Rattle.reply.specs.declared.Outcome.the-variants.{Read, Refused}
 use Rattle.reply.specs.declared.Reading.{Reading}
-use Rattle.reply.specs.Gate.{gate}
+use Rattle.reply.specs.Gate.{Gated, passed, refused as gateRefused, gate}
 
 -- the flag, the 32 bytes of 51H (zeros for every other command), and the records then
 abbrev pub Data : Type 0
@@ -81,9 +81,10 @@ byCode ms q w info =
     (given (w .header .ver) ms (took (formOf (q .cid2) (q .command)) ms (q .adr) info))
     (leaves (read (w .header .ver) (w .header .cid2) 0) noMaker ms)
 
--- a number that is 0 lets pass
-abbrev pub unless : ℕ → List Module → Left → Left
-unless k ms rest = cond (eqb k 0) rest (leaves (refused k) noMaker ms)
+-- what the gate refuses changes no record
+abbrev pub unless : Gated → List Module → Left → Left
+unless passed ms rest = rest
+unless (gateRefused k) ms rest = leaves (refused k) noMaker ms
 
 -- 31 first
 unfoldable pub readReply : Bool → List Module → Question → List ℕ → Left

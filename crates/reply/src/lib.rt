@@ -7,7 +7,7 @@ ghost use Rattle.table.specs.Table.{members};
 ghost use Rattle.command.specs.Heard.{wordsOf, words};
 ghost use Rattle.hex.specs.Hex.{unhexes};
 ghost use Rattle.table.specs.Rule.{keeps};
-ghost use Rattle.reply.specs.Gate.{gate};
+ghost use Rattle.reply.specs.Gate.{passed, gate};
 ghost use Rattle.reply.specs.Read.{took, tookNothing, given, byCode, readReply, Reads};
 ghost use Rattle.record.specs.Nothing.{noMaker};
 ghost use Rattle.frame.specs.Frame.{infoAt};
@@ -217,7 +217,7 @@ fn read_data(table: Table, kind: Kind, adr: u8, ver: u8, info: &[u8]) -> Reading
 
 // Of a stretch that may be read.
 fn read_open(table: Table, question: Question, heard: Heard, stretch: &[u8]) -> Reading
-    requires { ⌜ (wordsOf heard ≡ words (now stretch)) × (gate (members table) question (wordsOf heard) ≡ 0) ⌝ }
+    requires { ⌜ (wordsOf heard ≡ words (now stretch)) × (gate (members table) question (wordsOf heard) ≡ passed) ⌝ }
     ensures { λ r. ⌜ Reads (byCode (members table) question (wordsOf heard) (unhexes (infoAt (heard .lenid) (now (stretch .entry))))) table r ⌝ }
 {
     let header = heard.header;

@@ -4,8 +4,9 @@ use native.Mathlib.Nat.{zero-add}
 use native.Mathlib.Omega.{arith}
 use borrow.Author.Needs.{needs}
 use borrow.Author.Tests.{eq-eqb}
-use Rattle.receiver.proofs.Scans.{before-here, before-end}
-use Rattle.receiver.specs.Scan.{isSoi, before}
+use Rattle.buffer.proofs.Scans.{before-here, before-end}
+use Rattle.buffer.specs.Scan.{before}
+use Rattle.receiver.specs.Pass.{isSoi}
 use Rattle.receiver.proofs.find_soi.Statement.{statement}
 use Rattle.receiver.proofs.find_soi.Tie as tie
 

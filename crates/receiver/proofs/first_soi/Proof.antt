@@ -3,8 +3,9 @@ use Prim.Native.Nat.{_-_}
 use native.Mathlib.Omega.{arith}
 use lib.ListN.{length}
 use borrow.Author.Tests.{eq-eqb, ne-eqb}
-use Rattle.receiver.proofs.Scans.{before-one, before-here, before-end}
-use Rattle.receiver.specs.Scan.{isSoi, Clear}
+use Rattle.buffer.proofs.Scans.{before-one, before-here, before-end}
+use Rattle.buffer.specs.Scan.{Clear}
+use Rattle.receiver.specs.Pass.{isSoi}
 use Rattle.receiver.proofs.first_soi.Statement.{statement}
 use Rattle.receiver.proofs.first_soi.Tie as tie
 

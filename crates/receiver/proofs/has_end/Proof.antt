@@ -5,9 +5,10 @@ use Prim.Native.Nat.{ℕ, _+_, _-_, _≤_}
 use native.Mathlib.Omega.{arith}
 use lib.Dec.{eqb}
 use lib.ListN.{length, getD, drop}
-use Rattle.receiver.proofs.Scans.{or-cross, any-turn, any-end}
+use Rattle.buffer.proofs.Scans.{or-cross, any-turn, any-end}
 use Rattle.frame.specs.Frame.{SOI, CR}
-use Rattle.receiver.specs.Scan.{isEnd, any}
+use Rattle.buffer.specs.Scan.{any}
+use Rattle.receiver.specs.Pass.{isEnd}
 use Rattle.receiver.proofs.has_end.Statement.{statement}
 use Rattle.receiver.proofs.has_end.Tie as tie
 

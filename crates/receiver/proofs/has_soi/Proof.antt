@@ -4,8 +4,9 @@ use mathlib.Core.Path.{_≡_, refl, _∙_}
 use Prim.Native.Nat.{_-_, _≤_}
 use native.Mathlib.Omega.{arith}
 use lib.ListN.{length, drop}
-use Rattle.receiver.proofs.Scans.{any-turn, any-end}
-use Rattle.receiver.specs.Scan.{isSoi, any}
+use Rattle.buffer.proofs.Scans.{any-turn, any-end}
+use Rattle.buffer.specs.Scan.{any}
+use Rattle.receiver.specs.Pass.{isSoi}
 use Rattle.receiver.proofs.has_soi.Statement.{statement}
 use Rattle.receiver.proofs.has_soi.Tie as tie
 

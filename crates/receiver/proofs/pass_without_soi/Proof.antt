@@ -4,8 +4,9 @@ use mathlib.Core.Path.{_≡_, sym, ap, _∙_}
 use Prim.Native.Nat.{ℕ, _+_, _-_, _<_}
 use native.Mathlib.Omega.{arith}
 use lib.ListN.{length, take, drop}
-use Rattle.receiver.proofs.Scans.{before-skip}
-use Rattle.receiver.specs.Scan.{isSoi, any, Clear}
+use Rattle.buffer.proofs.Scans.{before-skip}
+use Rattle.buffer.specs.Scan.{any, Clear}
+use Rattle.receiver.specs.Pass.{isSoi}
 use Rattle.receiver.proofs.pass_without_soi.Statement.{statement}
 use Rattle.receiver.proofs.pass_without_soi.Tie as tie
 

@@ -4,8 +4,9 @@ use native.Mathlib.Nat.{zero-add}
 use native.Mathlib.Omega.{arith}
 use lib.Seq.{length-take-le}
 use borrow.Author.Needs.{needs}
-use Rattle.receiver.proofs.Scans.{before-skip}
-use Rattle.receiver.specs.Scan.{isEnd, before}
+use Rattle.buffer.proofs.Scans.{before-skip}
+use Rattle.buffer.specs.Scan.{before}
+use Rattle.receiver.specs.Pass.{isEnd}
 use Rattle.receiver.proofs.plain.Statement.{statement}
 use Rattle.receiver.proofs.plain.Tie as tie
 

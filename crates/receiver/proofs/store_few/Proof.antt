@@ -6,7 +6,8 @@ use native.Mathlib.Omega.{arith}
 use lib.Dec.{eqb}
 use lib.Seq.{paste, paste-zero}
 use lib.ListN.{length, length-set}
-use Rattle.receiver.specs.Scan.{isEnd, before}
+use Rattle.buffer.specs.Scan.{before}
+use Rattle.receiver.specs.Pass.{isEnd}
 use Rattle.receiver.proofs.Storing.{stored-none, stored-copy, one-at-most, store-turn}
 use Rattle.receiver.proofs.store_few.Statement.{statement}
 use Rattle.receiver.proofs.store_few.Tie as tie

@@ -5,9 +5,9 @@ use native.Mathlib.Omega.{arith}
 use lib.Seq.{length-take-le}
 use lib.ListN.{length, take, drop, length-drop}
 use borrow.Author.Needs.{needs}
-use Rattle.receiver.proofs.Scans.{before-le}
+use Rattle.buffer.proofs.Scans.{before-le}
 use Rattle.receiver.proofs.Storing.{passed-both}
-use Rattle.receiver.specs.Scan.{isEnd}
+use Rattle.receiver.specs.Pass.{isEnd}
 use Rattle.receiver.proofs.store_plain.Statement.{statement}
 use Rattle.receiver.proofs.store_plain.Tie as tie
 

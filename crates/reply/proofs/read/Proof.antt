@@ -3,7 +3,7 @@ use mathlib.Core.Path.{sym, ap, _∙_, subst}
 use Prim.Native.Nat.{_-_}
 use borrow.Author.Tests.{not-true, not-false}
 use borrow.Author.Needs.{needs}
-use Rattle.reply.proofs.Ways.{way-broken, way-refused, way-open}
+use Rattle.reply.proofs.Ways.{way-broken, way}
 use Rattle.reply.proofs.Taking.{not-read}
 use Rattle.reply.specs.Read.{readReply, Reads}
 use Rattle.reply.specs.Gate.{paper}
@@ -54,7 +54,7 @@ returns-2 c =
     let keeps-rule = c .before .before .before .before .before .before .before .keeps-rule in
     let if1 = c .before .before .before .before .before .before .if1 in
     let hear = c .before .before .before .before .before .hear in
-    subst (Reads (readReply (keeps table) (members table) question stretch) table) (sym (c .not-read2 .ensures)) (not-read table _ _ (way-refused (keeps table) (members table) question stretch (sym (keeps-rule .ensures) ∙ not-false (keeps-rule .result) (if1 .left)) (wordsOf (hear .result)) (hear .ensures) (c .before .before .entry .given .0 .0) (sym (ap paper (c .before .before .entry .given .1)) ∙ c .before .before .before .before .gate .ensures)))
+    subst (Reads (readReply (keeps table) (members table) question stretch) table) (sym (c .not-read2 .ensures)) (not-read table _ _ (way (keeps table) (members table) question stretch (sym (keeps-rule .ensures) ∙ not-false (keeps-rule .result) (if1 .left)) (wordsOf (hear .result)) (hear .ensures) _ (sym (ap paper (c .before .before .entry .given .1)) ∙ c .before .before .before .before .gate .ensures)))
 
 returns-3 : tie.Need-returns-3
 returns-3 c =
@@ -63,7 +63,7 @@ returns-3 c =
     let keeps-rule = c .before .before .before .before .before .before .keeps-rule in
     let if1 = c .before .before .before .before .before .if1 in
     let hear = c .before .before .before .before .hear in
-    record { is = c .read-open .ensures .is ∙ way-open (keeps table) (members table) (start .args .question) (start .args .stretch .now) (sym (keeps-rule .ensures) ∙ not-false (keeps-rule .result) (if1 .left)) (wordsOf (hear .result)) (hear .ensures) (sym (ap paper (c .before .enum-told .given .1)) ∙ c .before .before .before .gate .ensures); kept = c .read-open .ensures .kept }
+    record { is = c .read-open .ensures .is ∙ way (keeps table) (members table) (start .args .question) (start .args .stretch .now) (sym (keeps-rule .ensures) ∙ not-false (keeps-rule .result) (if1 .left)) (wordsOf (hear .result)) (hear .ensures) _ (sym (ap paper (c .before .enum-told .given .1)) ∙ c .before .before .before .gate .ensures); kept = c .read-open .ensures .kept }
 
 pub read-spec : {M : Type 1} → statement M
 read-spec =

@@ -7,8 +7,8 @@ use native.Mathlib.Omega.{arith}
 use native.Mathlib.Nat.{zero-add, suc-add}
 use lib.ListN.{length, getD, take, drop, take-append-drop, length-drop, drop-of-length-le}
 use lib.Seq.{drop-drop, length-take-le}
 use Rattle.buffer.proofs.Lists.{never, left-at}
-use Rattle.receiver.specs.Scan.{any, before}
+use Rattle.buffer.specs.Scan.{any, before}
 
 or-none : (a : Bool) → a || false ≡ a
 or-none true = refl

@@ -1,17 +1,9 @@
--- Nobody has to believe this page: words of the contracts of private functions, which look for SOI, or for SOI or CR, in a list.
+-- What a scan of a list finds: whether some element meets a test, and how many stand before the first that does.
 use mathlib.Core.Path.{_≡_}
 use mathlib.Core.Bool.{Bool, false, cond, _||_}
 use mathlib.Core.List.{List, [], _∷_}
 use Prim.Native.Nat.{ℕ, suc, _+_, _≤_}
 use lib.ListN.{length, drop}
-use lib.Dec.{eqb}
-use Rattle.frame.specs.Frame.{SOI, CR}
-
-abbrev pub isSoi : ℕ → Bool
-isSoi x = eqb x SOI
-
-abbrev pub isEnd : ℕ → Bool
-isEnd x = eqb x SOI || eqb x CR
 
 -- whether some element meets a test
 unfoldable pub any : (ℕ → Bool) → List ℕ → Bool
