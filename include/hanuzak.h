@@ -53,9 +53,9 @@
 extern "C" {
 #endif
 
-#define HANUZAK_VERSION "0.1.0" /* of this interface: MAJOR.MINOR.PATCH */
+#define HANUZAK_VERSION "0.2.0" /* of this interface: MAJOR.MINOR.PATCH */
 #define HANUZAK_VERSION_MAJOR 0
-#define HANUZAK_VERSION_MINOR 1
+#define HANUZAK_VERSION_MINOR 2
 #define HANUZAK_VERSION_PATCH 0
 
 /* ---- sizes */
@@ -80,16 +80,21 @@ extern "C" {
 
 /* ---- refusals, each with its number and its words (PROTOCOL 4.2 to 4.4) */
 
+/*
+ * Of 4 and 9 comes the one that the first bad character calls for; both have a place beside the number, see hanuzak_event.  A
+ * terminal that lowers letters gives 4; noise or a wrong baud rate gives 9, now and then 4.
+ */
 #define HANUZAK_REFUSALS(each)                                                                                         \
     /* of a stretch */                                                                                                 \
     each(TOO_LONG, 1, "more than 4,110 characters")                                                                    \
     each(SOI_INSIDE, 2, "SOI inside an open frame")                                                                    \
     each(TOO_SHORT, 3, "fewer than 16 characters")                                                                     \
-    each(NOT_HEX, 4, "a character that is not hex")                                                                    \
+    each(LOWER_CASE, 4, "a letter a to f in lower case")                                                               \
     each(LCHKSUM_DIFFERS, 5, "LCHKSUM differs")                                                                        \
     each(LENID_ODD, 6, "LENID is odd")                                                                                 \
     each(COUNT_DIFFERS, 7, "the count of characters is not 16 + LENID")                                                \
     each(CHKSUM_DIFFERS, 8, "CHKSUM differs")                                                                          \
+    each(NO_HEX_DIGIT, 9, "a character that is no hex digit, not even in lower case")                                  \
     /* of a reply that is a frame */                                                                                   \
     each(ADR_DIFFERS, 11, "ADR is not the one asked")                                                                  \
     each(CID1_DIFFERS, 12, "CID1 is not 46H")                                                                          \
@@ -255,7 +260,11 @@ typedef struct hanuzak_written {
     size_t   length;
 } hanuzak_written;
 
-/* HANUZAK_NOTHING, HANUZAK_FRAME with its four bytes and LENID, or HANUZAK_REFUSED with a number. */
+/*
+ * HANUZAK_NOTHING, HANUZAK_FRAME with its four bytes and LENID, or HANUZAK_REFUSED with a number.  With the numbers 4 and 9 place is
+ * that of the first bad character, one that is neither 0 to 9 nor A to F: 0 for the first character after SOI.  Where SOI is byte at
+ * of a capture, that is byte at + 1 + place.
+ */
 typedef struct hanuzak_event {
     uint32_t kind;
     uint32_t number;
@@ -263,6 +272,7 @@ typedef struct hanuzak_event {
     uint8_t  adr;
     uint8_t  cid1;
     uint8_t  cid2;
+    uint32_t place; /* 0 to 4,109 with 4 and 9, else 0 */
     size_t   lenid;
 } hanuzak_event;
 
@@ -324,7 +334,7 @@ typedef struct hanuzak_question {
 
 /*
  * HANUZAK_READ or HANUZAK_REFUSED with a number.  flag is that of 42H and 44H with code 00H, else 0.  maker has the 32 bytes of
- * 51H; zeros for every other command and code, and with a refusal.
+ * 51H; zeros for every other command and code, and with a refusal.  place is as in hanuzak_event.
  */
 typedef struct hanuzak_reply {
     uint32_t kind;
@@ -333,6 +343,7 @@ typedef struct hanuzak_reply {
     uint8_t  code;
     uint8_t  flag;
     uint8_t  maker[32];
+    uint32_t place; /* 0 to 4,109 with 4 and 9, else 0 */
 } hanuzak_reply;
 
 /* ---- the layout that the library was compiled with: the size of each struct, the place and size of each field */
@@ -400,6 +411,7 @@ HANUZAK_FIELD(hanuzak_event, ver, 8, 1);
 HANUZAK_FIELD(hanuzak_event, adr, 9, 1);
 HANUZAK_FIELD(hanuzak_event, cid1, 10, 1);
 HANUZAK_FIELD(hanuzak_event, cid2, 11, 1);
+HANUZAK_FIELD(hanuzak_event, place, 12, 4);
 HANUZAK_FIELD(hanuzak_event, lenid, 16, 8);
 
 HANUZAK_SIZE(hanuzak_receiver, 16);
@@ -437,13 +449,14 @@ HANUZAK_FIELD(hanuzak_question, adr, 0, 1);
 HANUZAK_FIELD(hanuzak_question, cid2, 1, 1);
 HANUZAK_FIELD(hanuzak_question, command, 2, 1);
 
-HANUZAK_SIZE(hanuzak_reply, 44);
+HANUZAK_SIZE(hanuzak_reply, 48);
 HANUZAK_FIELD(hanuzak_reply, kind, 0, 4);
 HANUZAK_FIELD(hanuzak_reply, number, 4, 4);
 HANUZAK_FIELD(hanuzak_reply, ver, 8, 1);
 HANUZAK_FIELD(hanuzak_reply, code, 9, 1);
 HANUZAK_FIELD(hanuzak_reply, flag, 10, 1);
 HANUZAK_FIELD(hanuzak_reply, maker, 11, 32);
+HANUZAK_FIELD(hanuzak_reply, place, 44, 4);
 
 #undef HANUZAK_FIELD
 #undef HANUZAK_SIZE
@@ -451,7 +464,7 @@ HANUZAK_FIELD(hanuzak_reply, maker, 11, 32);
 
 /* ---- frames and the receiver (PROTOCOL 2 and 3) */
 
-/* Judges the bytes between SOI and CR: a frame, or refused with 1 above 4,110 bytes, then 3 to 8. */
+/* Judges the bytes between SOI and CR: a frame, or refused with 1 above 4,110 bytes, then 3, then 4 or 9, then 5 to 8. */
 hanuzak_event hanuzak_judge(const uint8_t *stretch, size_t stretch_bytes);
 
 /*
@@ -463,16 +476,17 @@ hanuzak_receiver hanuzak_receiver_new(void);
 /*
  * One byte of the stream: the receiver then, and the event.  After a frame the store has the bytes between SOI and CR, as
  * hanuzak_answer and hanuzak_read_reply take them, at its first 16 + lenid places; INFO is the lenid characters from place 12 on.
- * After 3 to 8 it has them at its first count places, with the count of the receiver that was given: a stand-in answers these too.
+ * After 3 to 9 it has them at its first count places, with the count of the receiver that was given: a stand-in takes these too, and
+ * answers 5 to 8.
  * A character is stored at place count, and nothing else writes to the store.  Refused: 32 for a store below 4,110 bytes, then
  * 35 for an open receiver with a count above 4,110, and the receiver comes back (open as 0 or 1, and count 0 where it waits);
- * 2 for SOI inside, open again with count 0; 1 for a 4,111th character, which is not stored, and 3 to 8 at CR, then waiting.
+ * 2 for SOI inside, open again with count 0; 1 for a 4,111th character, which is not stored, and 3 to 9 at CR, then waiting.
  */
 hanuzak_stepped hanuzak_step(hanuzak_receiver receiver, uint8_t *store, size_t store_bytes, uint8_t byte);
 
 /*
  * The same over the bytes of a piece, up to and including the byte that gives an event, or all of it with no event: call it again
- * with the rest.  With a frame and with 3 to 8 the stretch is the first held bytes of the store.  Refused as by hanuzak_step; 32
+ * with the rest.  With a frame and with 3 to 9 the stretch is the first held bytes of the store.  Refused as by hanuzak_step; 32
  * and 35 take no byte.
  */
 hanuzak_ran hanuzak_run(hanuzak_receiver receiver, uint8_t *store, size_t store_bytes, const uint8_t *piece, size_t piece_bytes);
@@ -537,7 +551,7 @@ void hanuzak_switch_off(hanuzak_module *table, size_t records, size_t at);
 
 /*
  * The answer to a question, given the bytes between SOI and CR.  Refused: 32 for a buffer below 4,112 bytes, then 31; buffer and
- * table stay.  Then silence, with no byte written and the table as it was: the stretch is refused with 1, 3 or 4 by
+ * table stay.  Then silence, with no byte written and the table as it was: the stretch is refused with 1, 3, 4 or 9 by
  * hanuzak_judge, or its ADR names no member that is on.  Otherwise a reply stands at the front of out from SOI to CR, the other
  * bytes stay, and its return code is the first of these that applies:
  *   03H the stretch is refused with 5; 05H with 6 or 7; 02H with 8
@@ -561,7 +575,7 @@ hanuzak_answered hanuzak_answer(hanuzak_module *table, size_t records, hanuzak_s
  * asked record, or with Command FFH of each member that is on.  Read: VER, the return code and the flag; a code other than 00H
  * changes no record, nor do replies to 4FH, 51H and 95H.  on and link_fault never change: call hanuzak_switch_off after a 95H that
  * was read with 00H, or the next reply to FFH is refused with 22.
- * Refused: 31, then 34, then 23 for an ADR that is not in the table, then 1 or 3 to 8 of the stretch, then 11 to 22 of the reply;
+ * Refused: 31, then 34, then 23 for an ADR that is not in the table, then 1 or 3 to 9 of the stretch, then 11 to 22 of the reply;
  * the table stays.
  * A reply does not name its command: one to another command whose bytes happen to fit is read as if it were the one asked.
  */
@@ -575,6 +589,7 @@ hanuzak_listing hanuzak_listing_new(void);
 
 /*
  * Lists the bytes of a piece: the lines of its frames and refused stretches stand at the front of out, and its other bytes stay.
+ * A refused stretch has the lines at= and refused=, and with 4 and 9 a third, place=, in decimal.
  * It takes a byte only while 4,200 bytes of out are left, and none from offset 1,073,741,824 of the stream on; call it again with
  * the rest and the emptied buffer, unless next.offset is HANUZAK_LIMIT: then nothing more is taken.  Refused: 32 for a store below
  * 4,110 bytes or a buffer below 4,200, then 35 for an open receiver with a count above 4,110: no byte is taken, store and buffer

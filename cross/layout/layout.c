@@ -368,10 +368,11 @@ static void same_header(hanuzak_event event)
     SAME(event.adr, 0x22);
     SAME(event.cid1, 0x33);
     SAME(event.cid2, 0x44);
+    SAME(event.place, 0);
     SAME(event.lenid, 6);
 }
 
-static void same_event(hanuzak_event event, uint32_t kind, uint32_t number)
+static void same_event_at(hanuzak_event event, uint32_t kind, uint32_t number, uint32_t place)
 {
     SAME(event.kind, kind);
     SAME(event.number, number);
@@ -379,7 +380,13 @@ static void same_event(hanuzak_event event, uint32_t kind, uint32_t number)
     SAME(event.adr, 0);
     SAME(event.cid1, 0);
     SAME(event.cid2, 0);
+    SAME(event.place, place);
     SAME(event.lenid, 0);
+}
+
+static void same_event(hanuzak_event event, uint32_t kind, uint32_t number)
+{
+    same_event_at(event, kind, number, 0);
 }
 
 static void same_receiver(hanuzak_receiver receiver, size_t open, size_t count)
@@ -432,6 +439,26 @@ static void stepped(void)
     stepped = hanuzak_step(receiver, store, sizeof store, 'z');
     same_receiver(stepped.next, 0, 0);
     same_event(stepped.event, 0, 0);
+}
+
+/* A bad character at each place of the longest stretch, in lower case and not: the place crosses from every call that judges. */
+static void bad_characters(void)
+{
+    static uint8_t         store[HANUZAK_STORE];
+    const uint8_t          cr = '\r';
+    const hanuzak_receiver full = { 1, HANUZAK_STORE };
+
+    memset(store, '0', sizeof store);
+    for (uint32_t at = 0; at < HANUZAK_STORE; at++) {
+        uint32_t number = at % 2 ? HANUZAK_REFUSAL_LOWER_CASE : HANUZAK_REFUSAL_NO_HEX_DIGIT;
+
+        store[at] = at % 2 ? 'f' : 'g';
+        same_event_at(hanuzak_judge(store, sizeof store), HANUZAK_REFUSED, number, at);
+        same_event_at(hanuzak_step(full, store, sizeof store, cr).event, HANUZAK_REFUSED, number, at);
+        same_event_at(hanuzak_run(full, store, sizeof store, &cr, 1).event, HANUZAK_REFUSED, number, at);
+        store[at] = '0';
+    }
+    same_event(hanuzak_judge((const uint8_t *)"21054642E00205g", 15), HANUZAK_REFUSED, HANUZAK_REFUSAL_TOO_SHORT);
 }
 
 /* Six bytes of noise, a frame, a stretch that is too short, and the beginning of another. */
@@ -516,6 +543,17 @@ static void listed(void)
     SAME(listed.written.number, 35);
 }
 
+static void places_listed(void)
+{
+    uint8_t        store[HANUZAK_STORE];
+    const char     piece[] = "~21024642E00202fd32\r~21024642E00202Gd32\r~2102g\r";
+    hanuzak_listed listed;
+
+    memset(store, '.', sizeof store);
+    listed = hanuzak_list(hanuzak_listing_new(), store, sizeof store, (const uint8_t *)piece, sizeof piece - 1, out, sizeof out);
+    same_text(listed.written, "at=0\nrefused=4\nplace=14\nat=20\nrefused=9\nplace=14\nat=40\nrefused=3\n");
+}
+
 /* ---- any bit of open is open, for each call that takes a receiver */
 
 static void opened(void)
@@ -583,9 +621,10 @@ static void same_reply(hanuzak_reply reply, uint8_t ver, uint8_t code, uint8_t f
     SAME(reply.flag, flag);
     for (size_t j = 0; j < 32; j++)
         same_at("reply.maker", j, reply.maker[j], 0);
+    SAME(reply.place, 0);
 }
 
-static void same_refused(hanuzak_reply reply, uint32_t number)
+static void same_refused_at(hanuzak_reply reply, uint32_t number, uint32_t place)
 {
     SAME(reply.kind, 2);
     SAME(reply.number, number);
@@ -594,6 +633,28 @@ static void same_refused(hanuzak_reply reply, uint32_t number)
     SAME(reply.flag, 0);
     for (size_t j = 0; j < 32; j++)
         same_at("reply.maker", j, reply.maker[j], 0);
+    SAME(reply.place, place);
+}
+
+static void same_refused(hanuzak_reply reply, uint32_t number)
+{
+    same_refused_at(reply, number, 0);
+}
+
+/* A bad character at each place of a reply. */
+static void places_read(void)
+{
+    const hanuzak_question asked = question(SECOND, 0x42, SECOND);
+    hanuzak_module         table[3];
+    uint8_t                reply[HANUZAK_STORE];
+
+    three(table);
+    memset(reply, '0', sizeof reply);
+    for (uint32_t at = 0; at < HANUZAK_STORE; at++) {
+        reply[at] = at % 2 ? 'f' : 'g';
+        same_refused_at(hanuzak_read_reply(table, 3, asked, reply, sizeof reply), at % 2 ? 4 : 9, at);
+        reply[at] = '0';
+    }
 }
 
 static void maker_answered(void)
@@ -614,6 +675,7 @@ static void maker_answered(void)
     SAME(reply.flag, 0);
     for (size_t j = 0; j < 32; j++)
         same_at("station.maker and reply.maker", j, reply.maker[j], sent.maker[j]);
+    SAME(reply.place, 0);
 }
 
 /* A reply around INFO in out is read into the second record, and into nothing else. */
@@ -673,6 +735,17 @@ static void group_read(void)
     same_analog(read[0].analog, table[0].analog);
     same_analog(read[1].analog, sample(MASTER, 40).analog);
     same_analog(read[2].analog, table[2].analog);
+}
+
+/* Silence for a question with a bad character, whichever it is. */
+static void silence_for_bad_characters(void)
+{
+    static const char *const asked[] = { "21054642E0020fFD2C", "21054642E0020gFD2C" };
+    hanuzak_module           table[3];
+
+    three(table);
+    for (size_t i = 0; i < 2; i++)
+        same_answered(hanuzak_answer(table, 3, station(), (const uint8_t *)asked[i], 18, out, sizeof out), HANUZAK_SILENCE, 0, 0);
 }
 
 /* on, link_fault and the three fields of a question by what is answered and refused. */
@@ -781,7 +854,7 @@ static void commands(void)
 static void refusals(void)
 {
     for (uint32_t number = 0; number < 300; number++) {
-        int is_one = (number >= 1 && number <= 8) || (number >= 11 && number <= 23) || (number >= 31 && number <= 35);
+        int is_one = (number >= 1 && number <= 9) || (number >= 11 && number <= 23) || (number >= 31 && number <= 35);
 
         same_at("hanuzak_refusal", number, strcmp(hanuzak_refusal(number), "no refusal") != 0, is_one);
         for (uint32_t other = 0; is_one && other < number; other++)
@@ -834,12 +907,16 @@ int main(void)
     moved();
     frame_written();
     stepped();
+    bad_characters();
     ran();
     listed();
+    places_listed();
     opened();
     maker_answered();
+    places_read();
     records_read();
     group_read();
+    silence_for_bad_characters();
     marks();
     signs();
     codes();

@@ -17,7 +17,8 @@
  * but one whose bytes happen to fit is printed as values that the module never sent (PROTOCOL 8.14).
  *
  * A value is printed only from a reply that was read with code 00H.  Every refusal has its place in the capture (the offset of
- * the SOI), its number and its words.  The last line begins with "readings"; without it the output is incomplete.
+ * the SOI), its number and its words; 4 and 9 also have the place of the bad character, 0 for the first after SOI.  The last line
+ * begins with "readings"; without it the output is incomplete.
  */
 #include "hanuzak.h"
 
@@ -43,9 +44,12 @@ struct line {
     unsigned long    readings, without_values, refused_replies, refused_stretches;
 };
 
-static void print_refusal(uint64_t at, const char *what, uint32_t number)
+static void print_refusal(uint64_t at, const char *what, uint32_t number, uint32_t place)
 {
-    printf("at %" PRIu64 ": %s refused, %" PRIu32 ": %s\n", at, what, number, hanuzak_refusal(number));
+    printf("at %" PRIu64 ": %s refused, %" PRIu32, at, what, number);
+    if (number == HANUZAK_REFUSAL_LOWER_CASE || number == HANUZAK_REFUSAL_NO_HEX_DIGIT)
+        printf(" at place %" PRIu32, place);
+    printf(": %s\n", hanuzak_refusal(number));
 }
 
 /* ---- readings */
@@ -133,7 +137,7 @@ static void read_reply(struct line *line, uint64_t at, size_t characters)
     hanuzak_reply reply = hanuzak_read_reply(line->table, line->modules, line->question, line->store, characters);
 
     if (reply.kind == HANUZAK_REFUSED) {
-        print_refusal(at, "reply", reply.number);
+        print_refusal(at, "reply", reply.number, reply.place);
         line->refused_replies++;
         line->asked = OURS_REFUSED;
         return;
@@ -176,7 +180,7 @@ static void take_reply(struct line *line, uint64_t at, hanuzak_event frame)
 static void take_event(struct line *line, uint64_t at, hanuzak_event event)
 {
     if (event.kind == HANUZAK_REFUSED) {
-        print_refusal(at, "stretch", event.number);
+        print_refusal(at, "stretch", event.number, event.place);
         line->refused_stretches++;
     } else if (is_return_code(event.cid2)) {
         take_reply(line, at, event);

@@ -22,7 +22,7 @@ static int was_judged(hanuzak_event event)
 {
     return event.kind == HANUZAK_FRAME
            || (event.kind == HANUZAK_REFUSED && event.number >= HANUZAK_REFUSAL_TOO_SHORT
-               && event.number <= HANUZAK_REFUSAL_CHKSUM_DIFFERS);
+               && event.number <= HANUZAK_REFUSAL_NO_HEX_DIGIT);
 }
 
 static int answer(struct table *table, const uint8_t *stretch, size_t length)

@@ -14,6 +14,7 @@ from ctypes import POINTER, c_int16, c_int32, c_size_t, c_uint8, c_uint16, c_uin
 
 HEADER = pathlib.Path(__file__).resolve().parents[2] / "include/hanuzak.h"
 NOTHING, FRAME, REFUSED = 0, 1, 2  # kinds of an event and of a reply
+LOWER_CASE, NO_HEX_DIGIT = 4, 9  # the refusals with the place of a character
 CID1, ANALOG, GROUP, STORE = 0x46, 0x42, 0xFF, 4110
 RETURN_CODES = {*range(0x00, 0x07), 0x90, 0x91}
 
@@ -33,11 +34,13 @@ Limits = struct(10, charge_voltage=c_uint16, discharge_voltage=c_uint16, charge_
                 discharge_current=c_int16, status=c_uint8)
 Module = struct(140, adr=c_uint8, on=c_uint8, link_fault=c_uint8, analog=Analog, alarm=Alarm, limits=Limits,
                 serial=c_uint8 * 16, version=c_uint8 * 5)
-Event = struct(24, kind=c_uint32, number=c_uint32, ver=c_uint8, adr=c_uint8, cid1=c_uint8, cid2=c_uint8, lenid=c_size_t)
+Event = struct(24, kind=c_uint32, number=c_uint32, ver=c_uint8, adr=c_uint8, cid1=c_uint8, cid2=c_uint8, place=c_uint32,
+               lenid=c_size_t)
 Receiver = struct(16, open=c_size_t, count=c_size_t)
 Ran = struct(56, next=Receiver, event=Event, taken=c_size_t, held=c_size_t)
 Question = struct(3, adr=c_uint8, cid2=c_uint8, command=c_uint8)
-Reply = struct(44, kind=c_uint32, number=c_uint32, ver=c_uint8, code=c_uint8, flag=c_uint8, maker=c_uint8 * 32)
+Reply = struct(48, kind=c_uint32, number=c_uint32, ver=c_uint8, code=c_uint8, flag=c_uint8, maker=c_uint8 * 32,
+               place=c_uint32)
 
 Bytes, Table = POINTER(c_uint8), POINTER(Module)
 FUNCTIONS = {
@@ -65,6 +68,12 @@ class Hanuzak:
 def refusal_words():
     """The words of each number, from the header."""
     return {int(number): words for number, words in re.findall(r'each\(\w+, (\d+), "(.*)"\)', HEADER.read_text())}
+
+
+def refusal(told, words):
+    """The number of an event or a reply that is refused, where there is one the place, and the words."""
+    place = f" at place {told.place}" if told.number in (LOWER_CASE, NO_HEX_DIGIT) else ""
+    return f"refused, {told.number}{place}: {words[told.number]}"
 
 
 def reading(hanuzak, module):
@@ -108,7 +117,7 @@ def main():
     question = None
     for at, event in events(hanuzak, store):
         if event.kind == REFUSED:
-            print(f"at {at}: stretch refused, {event.number}: {words[event.number]}", flush=True)
+            print(f"at {at}: stretch {refusal(event, words)}", flush=True)
         elif event.cid2 not in RETURN_CODES:
             command = int(bytes(store[12:14]), 16) if event.lenid == 2 else 0
             ours = event.adr in addresses and (event.cid1, event.cid2, event.lenid) == (CID1, ANALOG, 2)
@@ -116,7 +125,7 @@ def main():
         elif question is not None:
             reply = hanuzak.read_reply(table, len(table), question, store, 16 + event.lenid)
             if reply.kind == REFUSED:
-                print(f"at {at}: reply refused, {reply.number}: {words[reply.number]}", flush=True)
+                print(f"at {at}: reply {refusal(reply, words)}", flush=True)
                 continue
             if reply.code != 0:
                 print(f"at {at}: return code {reply.code:02X}, no values", flush=True)

@@ -14,7 +14,7 @@ either : (b : Bool) (x y : Words) → x .told ≡ y .told → cond b x y .told �
 either true x y e = refl
 either false x y e = sym e
 
-told-is : (c : List ℕ) → words c .told ≡ judge c
+pub told-is : (c : List ℕ) → words c .told ≡ judge c
 unfolding words
 told-is c = either (ltb (length c) 16) _ _ refl
 

@@ -6,7 +6,7 @@ use lib.ListN.{length}
 use lib.Dec.{ltb}
 use Rattle.hex.specs.Hex.{byteAt}
 use Rattle.frame.specs.declared.Header.{Header}
-use Rattle.frame.specs.Judge.{Told, nothing, frame, refused, paper, header, lenid, judge}
+use Rattle.frame.specs.Judge.{Told, nothing, frame, refused, refusedAt, paper, header, lenid, judge}
 use Rattle.command.specs.declared.Heard.{Heard}
 
 -- the number of a refusal, and 0 for a frame
@@ -14,6 +14,7 @@ unfoldable pub numberOf : Told → ℕ
 numberOf nothing = 0
 numberOf (frame h n) = 0
 numberOf (refused k) = k
+numberOf (refusedAt k p) = k
 
 -- what is told of a stretch, its four bytes, LENID, and the byte at INFO's first place
 pub record Words : Type 0 where

@@ -113,6 +113,7 @@ pub fn number_of(judged: Judged) -> u8
     match judged {
         Judged::Frame(_, _) => 0,
         Judged::Refused(refusal) => refusal.number(),
+        Judged::RefusedAt(refusal, _) => refusal.number(),
     }
 }
 

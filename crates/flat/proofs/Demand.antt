@@ -1,10 +1,13 @@
--- Demand 3 for C: the numbers say what the enums do, so its calls take bytes as `run` and `step` do.
+-- Demand 3 for C, and what is told to it: the numbers say what the enums do, so its calls take bytes as `run` and `step` do.
 use mathlib.Core.Path.{_≡_, refl, sym, ap, _∙_, subst}
+use mathlib.Core.Logic.{_↔_}
 use mathlib.Core.List.{List, [], _∷_}
 use Prim.Native.Nat.{ℕ, _≤_, _<_}
 use native.Mathlib.Omega.{arith}
 use lib.ListN.{length, getD, take}
-use Rattle.frame.specs.Judge.{Told, nothing, frame, refused}
+use Rattle.frame.specs.Judge.{Told, nothing, refusedAt, judge}
+use Rattle.frame.specs.Place.{Placed}
+use Rattle.frame.proofs.Places.{placed}
 use Rattle.receiver.specs.declared.Receiver.{Receiver}
 use Rattle.receiver.specs.declared.Receiver.the-variants.{Waiting, Open}
 use Rattle.receiver.specs.Step.{step}
@@ -13,10 +16,14 @@ use Rattle.receiver.specs.Pass.{Fits}
 use Rattle.receiver.specs.Calls.{Asked, toRun, toStep, Can, Offers}
 use Rattle.receiver.specs.Demand.{out, Demand3}
 use Rattle.receiver.specs.Damage.{LostOrDoubled, inside, ToldOf, Exchanged}
+use Rattle.receiver.specs.Place.{PlacesTold}
 use Rattle.receiver.proofs.Pieces.{Took, took-one, took-ran, run-moves}
+use Rattle.receiver.proofs.There.{Holds, judge-holds, step-holds, run-holds}
 use Rattle.receiver.proofs.Demand.{mute, demand-of, lost-or-doubled-of}
 use Rattle.receiver.proofs.Damage.{silent, told-of}
+use Rattle.receiver.proofs.Places.{places-of}
 use Rattle.receiver.proofs.Exchanged.{exchanged-of}
+use Rattle.flat.specs.declared.FlatEvent.{FlatEvent}
 use Rattle.flat.specs.declared.FlatStepped.{FlatStepped}
 use Rattle.flat.specs.declared.FlatRan.{FlatRan}
 use Rattle.flat.specs.Flat.{eventOf, flatReceiver, receiverOf, steppedOf, ranOf}
@@ -26,10 +33,19 @@ pub receiver-back : (r : Receiver) → receiverOf (flatReceiver r) ≡ r
 receiver-back Waiting = refl
 receiver-back (Open n) = refl
 
-pub told-back : (t : Told) → toldOf (eventOf t) ≡ t
-told-back nothing = refl
-told-back (frame h n) = refl
-told-back (refused k) = refl
+-- what is told is what its numbers say, since 4 and 9 have a place, and no others
+abbrev Back : Told → Type 0
+Back t = toldOf (eventOf t) ≡ t
+
+back : Holds Back
+back = record { quiet = refl; whole = λ h n. refl; plain = λ r e. rw e; placed = λ r e p. rw e }
+
+-- so of the judge's answer: the first character that isn't hex, where its numbers say one
+pub flat-judge-placed : (c : List ℕ) (e : FlatEvent) → e ≡ eventOf (judge c) → (k p : ℕ) → (toldOf e ≡ refusedAt k p) ↔ Placed c k p
+flat-judge-placed c e is k p =
+    let said = ap toldOf is ∙ judge-holds Back back c in
+    let b = placed k p c in
+    (λ x. b .0 (sym said ∙ x), λ x. said ∙ b .1 x)
 
 module _ {A : Type 0} (note : ℕ → Told → List ℕ → List A) (mute : (n : ℕ) (store : List ℕ) → note n nothing store ≡ []) where
   takes : (r : Receiver) (store stream : List ℕ) (c : FlatCall) → Fits r store → Can (asked c) stream → Keeps r store stream c → Took note mute r store stream (leaves c)
@@ -37,7 +53,7 @@ module _ {A : Type 0} (note : ℕ → Told → List ℕ → List A) (mute : (n :
       let a = run (receiverOf r′) store (take most stream) in
       let g = took-ran note mute (receiverOf r′) store stream most (subst (λ (x : Receiver). Fits x store) (sym q) f) in
       let next : a .next ≡ receiverOf (answer .next) = sym (ap (λ (x : FlatRan). receiverOf (x .next)) p ∙ receiver-back (a .next)) in
-      let told : a .told ≡ toldOf (answer .event) = sym (ap (λ (x : FlatRan). toldOf (x .event)) p ∙ told-back (a .told)) in
+      let told : a .told ≡ toldOf (answer .event) = sym (ap (λ (x : FlatRan). toldOf (x .event)) p ∙ run-holds Back back (receiverOf r′) store (take most stream)) in
       let taken : a .taken ≡ answer .taken = sym (ap (λ (x : FlatRan). x .taken) p) in
       let held : a .held ≡ answer .held = sym (ap (λ (x : FlatRan). x .held) p) in
       let same : a ≡ leaves (ran r′ most answer store′) = λ i. record { next = next i; store = sym s i; told = told i; taken = taken i; held = held i } in
@@ -47,7 +63,7 @@ module _ {A : Type 0} (note : ℕ → Told → List ℕ → List A) (mute : (n :
   takes r store (b ∷ bs) (stepped r′ answer store′) f can (q, (p, s)) =
       let a = step (receiverOf r′) store b in
       let next : a .next ≡ receiverOf (answer .next) = sym (ap (λ (x : FlatStepped). receiverOf (x .next)) p ∙ receiver-back (a .next)) in
-      let told : a .told ≡ toldOf (answer .event) = sym (ap (λ (x : FlatStepped). toldOf (x .event)) p ∙ told-back (a .told)) in
+      let told : a .told ≡ toldOf (answer .event) = sym (ap (λ (x : FlatStepped). toldOf (x .event)) p ∙ step-holds Back back (receiverOf r′) store b) in
       let same : record { next = a .next; store = a .store; told = a .told; taken = 1; held = 0 } ≡ leaves (stepped r′ answer store′) =
       λ i. record { next = next i; store = sym s i; told = told i; taken = 1; held = 0 } in
       subst (λ (x : Receiver). Took note mute x store (b ∷ bs) (leaves (stepped r′ answer store′))) q
@@ -75,6 +91,9 @@ flat-lost-or-doubled store room = lost-or-doubled-of fromC store (flat-demand-3 
 
 pub flat-damage-told : (store : List ℕ) → 4110 ≤ length store → ToldOf fromC store
 flat-damage-told = told-of fromC (λ a b. takes (inside a b) (silent a b))
+
+pub flat-places-told : (store : List ℕ) → 4110 ≤ length store → PlacesTold fromC store
+flat-places-told = places-of fromC (λ a b. takes (inside a b) (silent a b))
 
 pub flat-exchanged : (store : List ℕ) → 4110 ≤ length store → Exchanged fromC store
 flat-exchanged store room = exchanged-of fromC store (flat-demand-3 store room)

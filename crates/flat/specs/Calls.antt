@@ -5,7 +5,7 @@ use mathlib.Core.List.{List}
 use Prim.Native.Nat.{ℕ}
 use lib.ListN.{getD, take}
 use lib.Dec.{eqb}
-use Rattle.frame.specs.Judge.{Told, nothing, frame, refused}
+use Rattle.frame.specs.Judge.{Told, nothing, frame, refused, refusedAt, carriesPlace}
 use Rattle.receiver.specs.declared.Receiver.{Receiver}
 use Rattle.receiver.specs.Step.{step}
 use Rattle.receiver.specs.Run.{Run, run}
@@ -23,12 +23,12 @@ FlatSteps r store b answer store′ = (answer ≡ steppedOf (step (receiverOf r)
 abbrev pub FlatRuns : FlatReceiver → List ℕ → List ℕ → FlatRan → List ℕ → Type 0
 FlatRuns r store piece answer store′ = (answer ≡ ranOf (run (receiverOf r) store piece)) × (store′ ≡ run (receiverOf r) store piece .store)
 
--- what the numbers of an event say
+-- what the numbers of an event say: with 4 and 9 the place too
 abbrev pub toldOf : FlatEvent → Told
 toldOf e =
     cond (eqb (e .kind) 0) nothing
     (cond (eqb (e .kind) 1) (frame (record { ver = e .ver; adr = e .adr; cid1 = e .cid1; cid2 = e .cid2 }) (e .lenid))
-    (refused (e .number)))
+    (cond (carriesPlace (e .number)) (refusedAt (e .number) (e .place)) (refused (e .number))))
 
 -- a call: the receiver that it is given, and the rest as of `run` and `step`
 pub data FlatCall : Type 0 where

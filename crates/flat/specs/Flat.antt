@@ -31,9 +31,10 @@ FlatWrites left r out = (r ≡ writtenOf (left .outcome)) × (out ≡ left .out)
 
 -- 0 nothing, 1 a frame, 2 refused
 abbrev pub eventOf : Judge.Told → FlatEvent
-eventOf Judge.nothing = record { kind = 0; number = 0; ver = 0; adr = 0; cid1 = 0; cid2 = 0; lenid = 0 }
-eventOf (Judge.frame h n) = record { kind = 1; number = 0; ver = h .ver; adr = h .adr; cid1 = h .cid1; cid2 = h .cid2; lenid = n }
-eventOf (Judge.refused k) = record { kind = 2; number = k; ver = 0; adr = 0; cid1 = 0; cid2 = 0; lenid = 0 }
+eventOf Judge.nothing = record { kind = 0; number = 0; ver = 0; adr = 0; cid1 = 0; cid2 = 0; place = 0; lenid = 0 }
+eventOf (Judge.frame h n) = record { kind = 1; number = 0; ver = h .ver; adr = h .adr; cid1 = h .cid1; cid2 = h .cid2; place = 0; lenid = n }
+eventOf (Judge.refused k) = record { kind = 2; number = k; ver = 0; adr = 0; cid1 = 0; cid2 = 0; place = 0; lenid = 0 }
+eventOf (Judge.refusedAt k p) = record { kind = 2; number = k; ver = 0; adr = 0; cid1 = 0; cid2 = 0; place = p; lenid = 0 }
 
 abbrev pub flatReceiver : Receiver → FlatReceiver
 flatReceiver Waiting = record { «open» = 0; count = 0 }
@@ -57,5 +58,6 @@ answeredOf (Answer.refused k) = record { kind = 2; number = k; length = 0 }
 
 -- 1 read, 2 refused; and the 32 bytes of 51H
 abbrev pub replyOf : Read.Result → List ℕ → FlatReply
-replyOf (Read.read ver code flag) maker = record { kind = 1; number = 0; ver = ver; code = code; flag = flag; maker = maker }
-replyOf (Read.refused k) maker = record { kind = 2; number = k; ver = 0; code = 0; flag = 0; maker = maker }
+replyOf (Read.read ver code flag) maker = record { kind = 1; number = 0; ver = ver; code = code; flag = flag; maker = maker; place = 0 }
+replyOf (Read.refused k) maker = record { kind = 2; number = k; ver = 0; code = 0; flag = 0; maker = maker; place = 0 }
+replyOf (Read.refusedAt k p) maker = record { kind = 2; number = k; ver = 0; code = 0; flag = 0; maker = maker; place = p }

@@ -24,7 +24,7 @@ pub struct FlatWritten {
     pub length: usize,
 }
 
-// An event: kind 0 nothing, 1 a frame with its four bytes and LENID, 2 refused.
+// An event: kind 0 nothing, 1 a frame with its four bytes and LENID, 2 refused, with 4 and 9 the place of the first character that isn't hex.
 #[repr(C)]
 pub struct FlatEvent {
     pub kind: u32,
@@ -33,6 +33,7 @@ pub struct FlatEvent {
     pub adr: u8,
     pub cid1: u8,
     pub cid2: u8,
+    pub place: u32,
     pub lenid: usize,
 }
 
@@ -65,7 +66,8 @@ pub struct FlatAnswered {
     pub length: usize,
 }
 
-// A reading: kind 1 read, 2 refused; the 32 bytes of 51H are zeros for every other command and with a refusal.
+// A reading: kind 1 read, 2 refused, with 4 and 9 the place of the first character that isn't hex; the 32 bytes of 51H are zeros for every
+// other command and with a refusal.
 #[repr(C)]
 pub struct FlatReply {
     pub kind: u32,
@@ -74,6 +76,7 @@ pub struct FlatReply {
     pub code: u8,
     pub flag: u8,
     pub maker: [u8; 32],
+    pub place: u32,
 }
 
 // A listing: its receiver, the offset of the next byte, and the totals so far.
@@ -118,6 +121,7 @@ pub fn judged(judged: Judged) -> FlatEvent
             adr: header.adr,
             cid1: header.cid1,
             cid2: header.cid2,
+            place: 0,
             lenid,
         },
         Judged::Refused(refusal) => FlatEvent {
@@ -127,6 +131,17 @@ pub fn judged(judged: Judged) -> FlatEvent
             adr: 0,
             cid1: 0,
             cid2: 0,
+            place: 0,
+            lenid: 0,
+        },
+        Judged::RefusedAt(refusal, place) => FlatEvent {
+            kind: 2,
+            number: refusal.number() as u32,
+            ver: 0,
+            adr: 0,
+            cid1: 0,
+            cid2: 0,
+            place,
             lenid: 0,
         },
     }
@@ -143,6 +158,7 @@ pub fn event(event: Event) -> FlatEvent
             adr: 0,
             cid1: 0,
             cid2: 0,
+            place: 0,
             lenid: 0,
         },
         Event::Frame(header, lenid) => FlatEvent {
@@ -152,6 +168,7 @@ pub fn event(event: Event) -> FlatEvent
             adr: header.adr,
             cid1: header.cid1,
             cid2: header.cid2,
+            place: 0,
             lenid,
         },
         Event::Refused(refusal) => FlatEvent {
@@ -161,6 +178,17 @@ pub fn event(event: Event) -> FlatEvent
             adr: 0,
             cid1: 0,
             cid2: 0,
+            place: 0,
+            lenid: 0,
+        },
+        Event::RefusedAt(refusal, place) => FlatEvent {
+            kind: 2,
+            number: refusal.number() as u32,
+            ver: 0,
+            adr: 0,
+            cid1: 0,
+            cid2: 0,
+            place,
             lenid: 0,
         },
     }
@@ -217,6 +245,7 @@ pub fn reply(outcome: Outcome, maker: [u8; 32]) -> FlatReply
             code,
             flag,
             maker,
+            place: 0,
         },
         Outcome::Refused(refusal) => FlatReply {
             kind: 2,
@@ -225,6 +254,16 @@ pub fn reply(outcome: Outcome, maker: [u8; 32]) -> FlatReply
             code: 0,
             flag: 0,
             maker,
+            place: 0,
+        },
+        Outcome::RefusedAt(refusal, place) => FlatReply {
+            kind: 2,
+            number: refusal.number() as u32,
+            ver: 0,
+            code: 0,
+            flag: 0,
+            maker,
+            place,
         },
     }
 }

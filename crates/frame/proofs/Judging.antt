@@ -1,7 +1,7 @@
 -- The judge accepts exactly the whole encodings, with their header and LENID: the seven tests as facts, and the characters laid out for any LENGTH and CHKSUM.
 use mathlib.Core.Path.{_≡_, refl, sym, ap, ap₂, _∙_, subst}
 use mathlib.Core.Logic.{_↔_, _≢_}
-use mathlib.Core.Bool.{Bool, true, false, not}
+use mathlib.Core.Bool.{Bool, true, false, cond, not}
 use mathlib.Core.List.{List, [], _∷_, _++_, List·Memᴰ as Among, List·Memᴰ·head, List·Memᴰ·tail}
 use Prim.Native.Nat.{ℕ, _+_, _*_, _/_, _%_, _≤_, _<_}
 use native.Mathlib.Omega.{arith}
@@ -9,21 +9,25 @@ use lib.ListN.{length, take, length-append}
 use lib.Seq.{take-at}
 use lib.Dec.{T, eqb→eq, leb→le, le→leb}
 use mir.Facts.{yes-eqb}
-use Rattle.buffer.proofs.Lists.{never}
+use Rattle.buffer.proofs.Lists.{by-cond, never}
 use Rattle.hex.specs.Hex.{allHex, hexes, word, byteAt, wordAt, unhexes, Bytes}
 use Rattle.hex.proofs.Laws.{Hexy, hexy-yes, yes-hexy, hexy-join, hexy-hexes, length-hexes, hexes-join, byte-pair, word-pairs, word-hexes, word-seam, bytes-word, bytes-cut, bytes-unhexes, hexes-unhexes}
 use Rattle.frame.specs.declared.Header.{Header}
 use Rattle.frame.specs.Frame.{lchksum, lengthOf, chksum, packed, seal, chars, Encodes, Whole, Frames}
-use Rattle.frame.specs.Judge.{Told, isRefusal, frame, refused, need, header, lenid, judge}
+use Rattle.frame.specs.Judge.{Told, isRefusal, frame, refused, need, needHex, header, lenid, judge}
 
 -- ---- the seven tests, as facts
 
-need-frame : (b : Bool) (n : ℕ) (t : Told) (h : Header) (k : ℕ) → need b n t ≡ frame h k → T b × (t ≡ frame h k)
+-- what is no refusal without a place comes of what follows a test, and that was passed
+pub need-gives : (u : Told) → ((n : ℕ) → refused n ≡ u → ⊥) → (b : Bool) (n : ℕ) (t : Told) → need b n t ≡ u → T b × (t ≡ u)
 unfolding need
-need-frame true n t h k p = (tt, p)
-need-frame false n t h k p = never (cc)
+need-gives u other true n t e = (tt, e)
+need-gives u other false n t e = absurd (other n e)
 
-need-yes : (b : Bool) (n : ℕ) (t : Told) → T b → need b n t ≡ t
+need-frame : (b : Bool) (n : ℕ) (t : Told) (h : Header) (k : ℕ) → need b n t ≡ frame h k → T b × (t ≡ frame h k)
+need-frame b n t h k = need-gives (frame h k) (λ n e. never (cc)) b n t
+
+pub need-yes : (b : Bool) (n : ℕ) (t : Told) → T b → need b n t ≡ t
 unfolding need
 need-yes true n t y = refl
 need-yes false n t y = absurd y
@@ -42,12 +46,23 @@ pub record Good (c : List ℕ) : Type 0 where
   pub count : length c ≡ 16 + lenid c
   pub check : wordAt c (12 + lenid c) ≡ chksum (take (12 + lenid c) c)
 
+-- the same of the test for hex
+cond-yes : (b : Bool) (t u : Told) → T b → cond b t u ≡ t
+cond-yes true t u y = refl
+cond-yes false t u y = absurd y
+
+hex-frame : (c : List ℕ) (t : Told) (h : Header) (n : ℕ) → needHex c t ≡ frame h n → T (allHex c) × (t ≡ frame h n)
+hex-frame c t h n = by-cond (λ (u : Told). u ≡ frame h n → T (allHex c) × (t ≡ frame h n)) (allHex c) (λ yes e. (yes, e)) (λ no e. never (cc))
+
+hex-yes : (c : List ℕ) (t : Told) → Hexy c → needHex c t ≡ t
+hex-yes c t h = cond-yes (allHex c) t _ (yes-hexy c h)
+
 judge-good : (c : List ℕ) (h : Header) (n : ℕ) → judge c ≡ frame h n → Good c × (frame (header c) (lenid c) ≡ frame h n)
 unfolding judge
 judge-good c h n p =
     let z = need-frame _ 1 _ h n p in
     let a = need-frame _ 3 _ h n (z .1) in
-    let b = need-frame _ 4 _ h n (a .1) in
+    let b = hex-frame c _ h n (a .1) in
     let d = need-frame _ 5 _ h n (b .1) in
     let e = need-frame _ 6 _ h n (d .1) in
     let f = need-frame _ 7 _ h n (e .1) in
@@ -69,7 +84,7 @@ unfolding judge
 good-judge c g =
     need-yes _ 1 _ (le→leb _ _ (g .few))
     ∙ need-yes _ 3 _ (le→leb _ _ (g .long))
-    ∙ need-yes _ 4 _ (yes-hexy c (g .hexy))
+    ∙ hex-yes c _ (g .hexy)
     ∙ need-yes _ 5 _ (yes-eqb (g .lchk))
     ∙ need-yes _ 6 _ (yes-eqb (g .even))
     ∙ need-yes _ 7 _ (yes-eqb (g .count))
@@ -78,13 +93,16 @@ good-judge c g =
 -- what is not refused is the frame
 pub accepted : (c : List ℕ) → isRefusal (judge c) ≡ false → judge c ≡ frame (header c) (lenid c)
 unfolding judge
-accepted c = passes _ 1 _ (passes _ 3 _ (passes _ 4 _ (passes _ 5 _ (passes _ 6 _ (passes _ 7 _ (passes _ 8 _ (λ _. refl)))))))
+accepted c = passes _ 1 _ (passes _ 3 _ (hexed _ (passes _ 5 _ (passes _ 6 _ (passes _ 7 _ (passes _ 8 _ (λ _. refl)))))))
   where
     Is : Told → Type 0
     Is t = isRefusal t ≡ false → t ≡ frame (header c) (lenid c)
 
     passes : (b : Bool) (n : ℕ) (t : Told) → Is t → Is (need b n t)
     passes b n t rest = need-by Is b n t (λ _. rest) (λ _ no. never (cc))
+
+    hexed : (t : Told) → Is t → Is (needHex c t)
+    hexed t rest = by-cond Is (allHex c) (λ _. rest) (λ _ no. never (cc))
 
 -- ---- LENGTH and CHKSUM are of sixteen bits
 
@@ -303,7 +321,7 @@ Odd t = (n : ℕ) × Among n (5 ∷ 6 ∷ 7 ∷ []) × (t ≡ refused n)
 pub odd-refused : (c : List ℕ) → Hexy c → 16 ≤ length c → length c ≤ 4110 → length c % 2 ≡ 1 → Odd (judge c)
 unfolding judge
 odd-refused c h long few odd =
-    subst Odd (sym (need-yes _ 1 _ (le→leb _ _ few) ∙ need-yes _ 3 _ (le→leb _ _ long) ∙ need-yes _ 4 _ (yes-hexy c h)))
+    subst Odd (sym (need-yes _ 1 _ (le→leb _ _ few) ∙ need-yes _ 3 _ (le→leb _ _ long) ∙ hex-yes c _ h))
     (need-by Odd _ 5 _
     (λ _. need-by Odd _ 6 _
     (λ even. need-by Odd _ 7 _
@@ -318,7 +336,7 @@ unfolding judge
 count-refused c h long few lchk even other =
     need-yes _ 1 _ (le→leb _ _ few)
     ∙ need-yes _ 3 _ (le→leb _ _ long)
-    ∙ need-yes _ 4 _ (yes-hexy c h)
+    ∙ hex-yes c _ h
     ∙ need-yes _ 5 _ (yes-eqb lchk)
     ∙ need-yes _ 6 _ (yes-eqb even)
     ∙ need-by (λ (t : Told). t ≡ refused 7) _ 7 _ (λ t. absurd (other (eqb→eq (length c) (16 + lenid c) t))) (λ t. refl)
@@ -328,12 +346,12 @@ count-refused c h long few lchk even other =
 pub good-whole : (c : List ℕ) → Good c → Whole c
 good-whole c g = let f = judge-accepts c (header c) (lenid c) .0 (good-judge c g) in (header c, f .0, f .1)
 
--- as many characters as a frame can have, and no frame: 4 where one is not hex, otherwise 5 to 8
+-- as many characters as a frame can have, all hex, and no frame: 5 to 8
 module _ (c : List ℕ) (long : 16 ≤ length c) (few : length c ≤ 4110) (none : Whole c → ⊥) where
   pub hex-refused : Hexy c → (n : ℕ) × Among n (5 ∷ 6 ∷ 7 ∷ 8 ∷ []) × (judge c ≡ refused n)
   unfolding judge
   hex-refused hexy =
-      subst Broken (sym (need-yes _ 1 _ (le→leb _ _ few) ∙ need-yes _ 3 _ (le→leb _ _ long) ∙ need-yes _ 4 _ (yes-hexy c hexy)))
+      subst Broken (sym (need-yes _ 1 _ (le→leb _ _ few) ∙ need-yes _ 3 _ (le→leb _ _ long) ∙ hex-yes c _ hexy))
       (need-by Broken _ 5 _
       (λ lchk. need-by Broken _ 6 _
       (λ even. need-by Broken _ 7 _
@@ -346,15 +364,6 @@ module _ (c : List ℕ) (long : 16 ≤ length c) (few : length c ≤ 4110) (none
     where
       Broken : Told → Type 0
       Broken t = (n : ℕ) × Among n (5 ∷ 6 ∷ 7 ∷ 8 ∷ []) × (t ≡ refused n)
-
-  pub any-refused : (n : ℕ) × (judge c ≡ refused n)
-  unfolding judge
-  any-refused =
-      let sized = need-yes _ 1 _ (le→leb _ _ few) ∙ need-yes _ 3 _ (le→leb _ _ long) in
-      subst (λ (t : Told). (n : ℕ) × (t ≡ refused n)) (sym sized)
-      (need-by (λ (t : Told). (n : ℕ) × (t ≡ refused n)) (allHex c) 4 _
-      (λ hexy. let r = hex-refused (hexy-yes c hexy) in (r .0, sym (sized ∙ need-yes (allHex c) 4 _ hexy) ∙ r .2))
-      (λ _. (4, refl)))
 
 pub whole-good : (c : List ℕ) → Whole c → Good c
 whole-good c w = chars-read (w .0) (w .1) c (w .2) .0

@@ -3,3 +3,4 @@ pub mod Changes
 pub mod Exchanged
 pub mod Steps
 pub mod Round
+pub mod Places

@@ -18,7 +18,7 @@ use Rattle.hex.specs.Hex.{hexes, word, unhexes, Bytes}
 use Rattle.hex.proofs.Laws.{length-hexes, unhexes-hexes}
 use Rattle.frame.specs.declared.Header.{Header}
 use Rattle.frame.specs.declared.Judged.{Judged}
-use Rattle.frame.specs.declared.Judged.the-variants.{Frame, Refused}
+use Rattle.frame.specs.declared.Judged.the-variants.{Frame, Refused, RefusedAt}
 use Rattle.frame.specs.Frame.{SOI, CR, lengthOf, chksum, packed, seal, chars, encode, infoAt, Encodes, Frames, between}
 use Rattle.frame.specs.Judge.{Judges, paper}
 use Rattle.frame.specs.Write.{framed}
@@ -32,6 +32,14 @@ paper-injective (Frame h m) (Frame g n) e = cc
 paper-injective (Frame h m) (Refused r) e = never (cc)
 paper-injective (Refused q) (Frame g n) e = never (cc)
 paper-injective (Refused q) (Refused r) e = let n : number q ≡ number r = cc in ap Refused (number-injective q r n)
+paper-injective (Frame h m) (RefusedAt r p) e = never (cc)
+paper-injective (RefusedAt q p) (Frame g n) e = never (cc)
+paper-injective (Refused q) (RefusedAt r p) e = never (cc)
+paper-injective (RefusedAt q p) (Refused r) e = never (cc)
+paper-injective (RefusedAt q p) (RefusedAt r p′) e =
+    let n : number q ≡ number r = cc in
+    let same : p ≡ p′ = cc in
+    λ i. RefusedAt (number-injective q r n i) (same i)
 
 pub judges-one : (c : List ℕ) (a b : Judged) → Judges c a → Judges c b → a ≡ b
 judges-one c a b p q = paper-injective a b (p ∙ sym q)

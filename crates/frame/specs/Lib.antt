@@ -1,3 +1,4 @@
 pub mod Frame
 pub mod Judge
+pub mod Place
 pub mod Write

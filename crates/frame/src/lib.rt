@@ -4,11 +4,12 @@ ghost use mathlib.Core.Path.{_≡_};
 ghost use mathlib.Core.List.{[], _∷_, _++_};
 ghost use Prim.Native.Nat.{_+_, _-_, _%_, _<_, _≤_};
 ghost use lib.ListN.{length, take, drop};
-ghost use Rattle.hex.specs.Hex.{hexes, word};
+ghost use mathlib.Core.Bool.{false};
+ghost use Rattle.hex.specs.Hex.{allHex, hexes, word};
 ghost use Rattle.buffer.specs.Put.{Room, Put};
 ghost use Rattle.buffer.specs.Writing.{Writes};
 ghost use Rattle.frame.specs.Frame.{lchksum, lengthOf, sum, chksum, packed};
-ghost use Rattle.frame.specs.Judge.{header, Judges};
+ghost use Rattle.frame.specs.Judge.{nothing, paper, needHex, header, Judges};
 ghost use Rattle.frame.specs.Write.{framed};
 use buffer::Written;
 use refusal::Refusal;
@@ -32,10 +33,12 @@ pub struct Header {
     pub cid2: u8,
 }
 
-// What the characters between SOI and CR are: a frame with its header and LENID, or the refusal.
+// What the characters between SOI and CR are: a frame with its header and LENID, or the refusal, with the place of the first character that
+// isn't hex where that is why.
 pub enum Judged {
     Frame(Header, usize),
     Refused(Refusal),
+    RefusedAt(Refusal, u32),
 }
 
 // LCHKSUM of a LENID.
@@ -93,6 +96,18 @@ pub fn header_of(stretch: &[u8]) -> Header
     }
 }
 
+// The refusal that the first character that isn't hex calls for, with its place.
+fn bad_character(stretch: &[u8]) -> Judged
+    requires { ⌜ (allHex (now stretch) ≡ false) × (length (now stretch) ≤ 4110) ⌝ }
+    ensures { λ r. ⌜ paper r ≡ needHex (now (stretch .entry)) nothing ⌝ }
+{
+    let place = hex::first_bad(stretch);
+    if hex::is_lower(stretch[place]) {
+        return Judged::RefusedAt(Refusal::LowerCase, place as u32);
+    }
+    Judged::RefusedAt(Refusal::NoHexDigit, place as u32)
+}
+
 // Judges the characters between SOI and CR: the first refusal that applies, or the frame.
 pub fn judge(stretch: &[u8]) -> Judged
     ensures { λ r. ⌜ Judges (now (stretch .entry)) r ⌝ }
@@ -105,7 +120,7 @@ pub fn judge(stretch: &[u8]) -> Judged
         return Judged::Refused(Refusal::TooShort);
     }
     if !hex::all_hex(stretch) {
-        return Judged::Refused(Refusal::NotHex);
+        return bad_character(stretch);
     }
     let length = hex::word_at(stretch, 8);
     let lenid = length % 4096;

@@ -1,10 +1,12 @@
 -- Hex characters: `0`-`9` and `A`-`F` only, two for each byte, high digit first. Lower case is not hex here.
-use mathlib.Core.Bool.{Bool, true, cond, _&&_, _||_}
+use mathlib.Core.Path.{_≡_}
+use mathlib.Core.Bool.{Bool, true, false, cond, not, _&&_, _||_}
 use mathlib.Core.List.{List, [], _∷_}
 use Prim.Native.Nat.{ℕ, suc, _+_, _-_, _*_, _/_, _%_, _<_}
 use Prim.Native.Char.{Char, code}
-use lib.ListN.{getD}
+use lib.ListN.{length, getD, take}
 use lib.Dec.{leb, ltb}
+use Rattle.buffer.specs.Scan as Scan
 
 abbrev pub within : Char → Char → ℕ → Bool
 within first last c = leb (code first) c && leb c (code last)
@@ -26,6 +28,20 @@ charOf d = cond (ltb d 10) (code "0" + d) (code "A" + (d - 10))
 unfoldable pub allHex : List ℕ → Bool
 allHex [] = true
 allHex (c ∷ cs) = isHex c && allHex cs
+
+-- the place of the first character that isn't hex: how many stand before it, or all of them
+unfoldable pub badPlace : List ℕ → ℕ
+badPlace cs = Scan.before (λ c. not (isHex c)) cs
+
+-- what that place is: inside, all before it is hex, and the character there is not
+pub record FirstBad (cs : List ℕ) (p : ℕ) : Type 0 where
+  pub inside : p < length cs
+  pub before : allHex (take p cs) ≡ true
+  pub bad : isHex (getD cs p 0) ≡ false
+
+-- a hex letter in lower case
+unfoldable pub isLower : ℕ → Bool
+isLower c = within "a" "f" c
 
 -- a byte's two characters, and those of several bytes
 unfoldable pub pairOf : ℕ → List ℕ

@@ -5,7 +5,7 @@ ghost use Prim.Native.Nat.{_+_, _-_, _%_, _<_, _≤_, min};
 ghost use lib.ListN.{length};
 ghost use lib.Dec.{eqb};
 ghost use Rattle.buffer.specs.Put.{Room, Put};
-ghost use Rattle.hex.specs.Hex.{isHex, digitOf, charOf, byteOf, byteAt, wordAt, allHex, pairOf, hexes, word};
+ghost use Rattle.hex.specs.Hex.{isHex, digitOf, charOf, byteOf, byteAt, wordAt, allHex, badPlace, isLower, pairOf, hexes, word};
 
 // The characters of a block where there are many.
 const BLOCK: usize = 64;
@@ -123,6 +123,27 @@ pub fn all_hex(s: &[u8]) -> bool
         return all_hex_at_ends(s, 32);
     }
     all_hex_by_blocks(s)
+}
+
+// Whether a character is a hex letter in lower case.
+pub fn is_lower(c: u8) -> bool
+    ensures { λ r. ⌜ r ≡ isLower c ⌝ }
+{
+    (97 <= c) & (c <= 102)
+}
+
+// The place of the first character that isn't hex, or the length: one by one, since it is asked only of characters that are refused.
+pub fn first_bad(s: &[u8]) -> usize
+    ensures { λ r. ⌜ r ≡ badPlace (now (s .entry)) ⌝ }
+{
+    let mut i: usize = 0;
+    while i < s.len() {
+        if distance(s[i]) != 0 {
+            return i;
+        }
+        i += 1;
+    }
+    i
 }
 
 // Puts the two characters of a byte.

@@ -11,7 +11,7 @@ use Rattle.buffer.specs.Text.{ascii}
 use Rattle.hex.specs.Hex.{hexes, word}
 use Rattle.frame.specs.declared.Header.{Header}
 use Rattle.frame.specs.Frame.{CR, lengthOf, chksum, encode}
-use Rattle.frame.specs.Judge.{frame, refused, judge}
+use Rattle.frame.specs.Judge.{frame, refused, refusedAt, judge}
 use Rattle.receiver.specs.Damage.{lost, doubled, exchanged}
 use Rattle.record.specs.Meanings.{tenthsCelsiusOf, milliampsOf}
 
@@ -24,6 +24,8 @@ pub data Line : Type 0 where
   sent : String → ℕ → ℕ → ℕ → ℕ → List ℕ → Line
   -- a stretch from its tilde on that is no frame, and the number of its refusal
   broken : String → ℕ → Line
+  -- one with a character that isn't hex: the number, and the character's place
+  brokenAt : String → ℕ → ℕ → Line
   -- a line, a place of it, and the line without the character there, with it twice, with it and the next one exchanged
   oneLost oneDoubled twoExchanged : String → ℕ → String → Line
   -- the word of a temperature, and tenths of a degree Celsius
@@ -41,6 +43,7 @@ Holds (sent text ver adr cid1 cid2 info) =
     (judge (drop 1 (ascii text)) ≡ frame (headerOf ver adr cid1 cid2) (2 * length info))
     × (encode (headerOf ver adr cid1 cid2) info ≡ ascii text ++ CR ∷ [])
 Holds (broken text number) = judge (drop 1 (ascii text)) ≡ refused number
+Holds (brokenAt text number place) = judge (drop 1 (ascii text)) ≡ refusedAt number place
 Holds (oneLost text k left) = lost k (ascii text) ≡ ascii left
 Holds (oneDoubled text k left) = doubled k (ascii text) ≡ ascii left
 Holds (twoExchanged text k left) = exchanged k (ascii text) ≡ ascii left
@@ -68,6 +71,8 @@ lines =
     ∷ sent "~2002464F0000FD98" 0x20 0x02 0x46 0x4F []
     ∷ sent "~210246000000FDB1" 0x21 0x02 0x46 0x00 []
     ∷ sent "~21024642E00202FD32" 0x21 0x02 0x46 0x42 (0x02 ∷ [])
+    ∷ brokenAt "~21024642E00202fd32" 4 14
+    ∷ brokenAt "~21024642E00202Gd32" 9 14
     ∷ sent "~210246040000FDAD" 0x21 0x02 0x46 0x04 []
     ∷ sent "~0202464F0000FD98" 0x02 0x02 0x46 0x4F []
     ∷ sent "~2102460080260002010D45010BAA00000D45FDE802FDE80007F578" 0x21 0x02 0x46 0x00 (oneCell 0x45)

@@ -30,6 +30,12 @@ fn print_event(event: Event) {
             io::write_all(STDOUT_FILENO, b" refused ");
             io::print_decimal(STDOUT_FILENO, refusal.number() as u64);
         }
+        Event::RefusedAt(refusal, place) => {
+            io::write_all(STDOUT_FILENO, b" refused ");
+            io::print_decimal(STDOUT_FILENO, refusal.number() as u64);
+            io::write_all(STDOUT_FILENO, b" at place ");
+            io::print_decimal(STDOUT_FILENO, place as u64);
+        }
     }
 }
 
@@ -113,6 +119,7 @@ fn frames() {
     hear(b"check FD32:", b"~21024642E00202FD32\r");
     hear(b"check FD33:", b"~21024642E00202FD33\r");
     hear(b"check fd32:", b"~21024642E00202fd32\r");
+    hear(b"check Gd32:", b"~21024642E00202Gd32\r");
     hear(b"1203400456ABCEFE:", b"~1203400456ABCEFEFC71\r");
     hear(
         b"half a reply, then a good one:",

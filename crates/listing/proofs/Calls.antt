@@ -11,13 +11,13 @@ use borrow.Author.Tests.{le-leb, le-ltb}
 use Rattle.buffer.specs.Writing.{writing}
 use Rattle.buffer.proofs.Lists.{by-cond}
 use Rattle.buffer.proofs.Writers.{writes-one}
-use Rattle.frame.specs.Judge.{Told, nothing, frame, refused}
+use Rattle.frame.specs.Judge.{Told, nothing, frame, refused, refusedAt}
 use Rattle.receiver.specs.Step.{step}
 use Rattle.receiver.proofs.Rows.{within}
 use Rattle.receiver.specs.Pass.{Fits}
 use Rattle.listing.specs.declared.Listing.{Listing}
 use Rattle.listing.specs.declared.Listed.{Listed}
-use Rattle.texts.specs.Block.{Block, frameBlock, refusalBlock, blockOf, lines, framesIn, refusalsIn, totals, printed}
+use Rattle.texts.specs.Block.{Block, frameBlock, refusalBlock, placedBlock, blockOf, lines, framesIn, refusalsIn, totals, printed}
 use Rattle.listing.specs.Stream.{blocksOf, listingOf}
 use Rattle.listing.specs.Piece.{fresh, left, framesThen, refusalsThen, onward, soiOf, Part, rests, listing, Call, prints, list, Lists, closing}
 use Rattle.listing.specs.Calls.{Given, text, Called, calls}
@@ -41,12 +41,14 @@ unfolding framesIn
 frames-join [] t = omega arith
 frames-join (frameBlock at h info ∷ s) t = omega (arith, frames-join s t)
 frames-join (refusalBlock at n ∷ s) t = omega (arith, frames-join s t)
+frames-join (placedBlock at n p ∷ s) t = omega (arith, frames-join s t)
 
 pub refusals-join : (s t : List Block) → refusalsIn (s ++ t) ≡ refusalsIn s + refusalsIn t
 unfolding refusalsIn
 refusals-join [] t = omega arith
 refusals-join (frameBlock at h info ∷ s) t = omega (arith, refusals-join s t)
 refusals-join (refusalBlock at n ∷ s) t = omega (arith, refusals-join s t)
+refusals-join (placedBlock at n p ∷ s) t = omega (arith, refusals-join s t)
 
 -- at most one more, and that is the block
 frames-more : (told : Told) (n at : ℕ) (store : List ℕ) → n ≤ 1073741824
@@ -55,6 +57,7 @@ unfolding framesIn
 frames-more nothing n at store h = (omega arith, omega arith)
 frames-more (frame g m) n at store h = (omega arith, omega arith)
 frames-more (refused k) n at store h = (omega arith, omega arith)
+frames-more (refusedAt k p) n at store h = (omega arith, omega arith)
 
 refusals-more : (told : Told) (n at : ℕ) (store : List ℕ) → n ≤ 1073741824
     → (refusalsThen n told ≡ n + refusalsIn (blockOf at told store)) × (refusalsThen n told ≤ n + 1)
@@ -62,6 +65,7 @@ unfolding refusalsIn
 refusals-more nothing n at store h = (omega arith, omega arith)
 refusals-more (frame g m) n at store h = (omega arith, omega arith)
 refusals-more (refused k) n at store h = (omega arith, omega arith)
+refusals-more (refusedAt k p) n at store h = (omega arith, omega arith)
 
 -- ---- a part of a piece
 

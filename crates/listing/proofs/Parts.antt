@@ -18,7 +18,7 @@ use Rattle.buffer.proofs.Puts.{put-then, put-none, puts-front}
 use Rattle.hex.specs.Hex.{pairOf, hexes}
 use Rattle.frame.specs.declared.Header.{Header}
 use Rattle.frame.specs.Frame.{chars, seal, packed}
-use Rattle.frame.specs.Judge.{Told, nothing, frame, refused, judge}
+use Rattle.frame.specs.Judge.{Told, nothing, frame, refused, refusedAt, judge}
 use Rattle.frame.proofs.Judging.{judge-accepts}
 use Rattle.receiver.specs.declared.Receiver.{Receiver}
 use Rattle.receiver.specs.declared.Receiver.the-variants.{Waiting, Open}
@@ -55,6 +55,7 @@ judge-stands n store = go (judge (take n store)) refl
         let whole : chars h (f .0) ++ drop n store ≡ store = ap (λ (c : List ℕ). c ++ drop n store) (sym (f .1 .is)) ∙ take-append-drop n store in
         subst (Stands (frame h m)) whole (encoded-stands h (f .0) (drop n store) m (omega (arith, f .1 .short, f .2)))
     go (refused k) e = tt
+    go (refusedAt k p) e = tt
 
 stands-by : (k : Kind) (r : Receiver) (store : List ℕ) (b : ℕ) → Stands (stepBy k r store b .told) (stepBy k r store b .store)
 unfolding stepBy
@@ -100,6 +101,7 @@ is-nothing : (t : Told) → isNothing t ≡ true → t ≡ nothing
 is-nothing nothing e = refl
 is-nothing (frame h n) e = never (cc)
 is-nothing (refused k) e = never (cc)
+is-nothing (refusedAt k p) e = never (cc)
 
 -- what is left after a part of a piece
 abbrev after-part : Part → ℕ → List ℕ → Part

@@ -11,7 +11,7 @@ use lib.Dec.{ltb}
 use borrow.Author.Tests.{ltb-true}
 use Rattle.frame.specs.declared.Header.{Header}
 use Rattle.frame.specs.Frame.{infoAt}
-use Rattle.frame.specs.Judge.{Told, nothing, frame, refused, judge}
+use Rattle.frame.specs.Judge.{Told, nothing, frame, refused, refusedAt, judge}
 use Rattle.frame.proofs.Judging.{judge-accepts}
 use Rattle.frame.proofs.Steps.{length-chars}
 use Rattle.receiver.specs.declared.Receiver.{Receiver}
@@ -55,6 +55,7 @@ module _ (n : ℕ) (s t : List ℕ) (same : take n s ≡ take n t) (in-s : n ≤
       go nothing e = rw e
       go (frame h m) e = rw e (ap (λ (info : List ℕ). frameBlock at h info ∷ []) (info-same h m e))
       go (refused k) e = rw e
+      go (refusedAt k p) e = rw e
 
 record Both (k : Kind) (r : Receiver) (last offset : ℕ) (a a′ : After) : Type 0 where
   next : a .next ≡ a′ .next

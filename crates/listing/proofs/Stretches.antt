@@ -12,16 +12,18 @@ use Rattle.buffer.proofs.Lists.{by-cond, never}
 use Rattle.hex.proofs.Laws.{said, Hexy}
 use Rattle.frame.specs.declared.Header.{Header}
 use Rattle.frame.specs.Frame.{SOI}
-use Rattle.frame.specs.Judge.{Told, nothing, frame, refused, judge}
+use Rattle.frame.specs.Judge.{Told, nothing, frame, refused, refusedAt, judge}
 use Rattle.receiver.specs.declared.Receiver.{Receiver}
 use Rattle.receiver.specs.declared.Receiver.the-variants.{Waiting, Open}
 use Rattle.receiver.specs.Step.{Kind, soi, cr, other, kind, After, stepBy, step}
 use Rattle.receiver.specs.Pass.{Fits}
 use Rattle.receiver.specs.Stream.{after, toldAfter, toldAt, storeAt, Stretch}
+use Rattle.receiver.specs.Place.{BadStretch}
 use Rattle.receiver.proofs.Rows.{is-soi, step-within}
 use Rattle.receiver.proofs.Receive.{kind-soi, after-fits}
 use Rattle.receiver.proofs.Streams.{hexy-frame, in-range, cut, cut-stretch, exactly, store-then, info-in-store}
-use Rattle.texts.specs.Block.{Block, frameBlock, refusalBlock, blockOf, printed}
+use Rattle.receiver.proofs.Places.{told-bad}
+use Rattle.texts.specs.Block.{Block, frameBlock, refusalBlock, placedBlock, blockOf, printed}
 use Rattle.listing.specs.Stream.{lastSoi, blocksFrom, blocksOf, listingOf}
 use Rattle.listing.specs.Stretches.{Opened, Right, at, Rising, Tells}
 use Rattle.listing.specs.Piece.{fresh, left, closing}
@@ -76,6 +78,10 @@ last-stretch s i j h n f =
     ap (lastFrom 0 0) (cut-stretch s i j h n f)
     ∙ last-at (take i s) (slice (suc i) j s) 0 0 (hexy-none (slice (suc i) j s) (hexy-frame h n (slice (suc i) j s) (f .frame)))
     ∙ (omega (arith, length-take-le i s (omega (arith, f .order, in-range s j (f .closes)))))
+
+last-bad : (s : List ℕ) (i j k p : ℕ) → BadStretch s i j k p → lastFrom 0 0 (take j s) ≡ i
+last-bad s i j k p b =
+    last-opened s i j (omega (arith, in-range s j (b .closes))) (record { order = b .order; soi = b .opens; last = λ m l r. b .between m l r .0 })
 
 -- ---- an open receiver holds what came since an SOI
 
@@ -230,6 +236,9 @@ module _ (s : List ℕ) where
           (record { cr = k; lenid = n; stretch = g; is = info-in-store zeros s (lastFrom 0 0 (take k s)) k h n room g })
       go (refused n) e m =
           subst (Right s) (sym (List·Memᴰ·eq-of-singleton m)) (record { byte = k; inside = inside; told = e; opened = open-at k n inside e })
+      go (refusedAt n p) e m =
+          let f = told-bad zeros s room k n p inside .0 e in
+          subst (Right s) (sym (List·Memᴰ·eq-of-singleton m)) (k, subst (λ (i : ℕ). BadStretch s i k n p) (sym (last-bad s (f .0) k n p (f .1))) (f .1))
 
   there : (b : Block) → Right s b → Among b (blocksOf (take (length s) s))
   there (frameBlock i h info) t =
@@ -246,6 +255,11 @@ module _ (s : List ℕ) where
       all s (length s) (omega arith) (refusalBlock i n) k (t .inside)
       (subst (λ (x : Told). Among (refusalBlock i n) (blockOf (lastFrom 0 0 (take k s)) x (storeAt zeros s k))) (sym (t .told))
       (List·Memᴰ·head (λ x. refusalBlock (sym (last-opened s i k (omega (arith, t .inside)) (t .opened)) x) n)))
+  there (placedBlock i n p) (k, b) =
+      let inside = in-range s k (b .closes) in
+      all s (length s) (omega arith) (placedBlock i n p) k inside
+      (subst (λ (x : Told). Among (placedBlock i n p) (blockOf (lastFrom 0 0 (take k s)) x (storeAt zeros s k))) (sym (told-bad zeros s room k n p inside .1 (i, b)))
+      (List·Memᴰ·head (λ x. placedBlock (sym (last-bad s i k n p b) x) n p)))
 
 -- ---- in order
 
@@ -277,6 +291,7 @@ unfolding Rising
 rising-block nothing store last m bs h r = rising-from m last bs (omega arith) r
 rising-block (frame g n) store last m bs h r = (omega arith, rising-from m (suc last) bs h r)
 rising-block (refused n) store last m bs h r = (omega arith, rising-from m (suc last) bs h r)
+rising-block (refusedAt n p) store last m bs h r = (omega arith, rising-from m (suc last) bs h r)
 
 rising-by : (k : Kind) (r : Receiver) (store : List ℕ) (b last offset : ℕ) (bs : List Block) → Behind r last offset
     → Rising (bound (stepBy k r store b .next) (lastSoi k offset last) (suc offset)) bs → Rising (bound r last offset) (blockOf last (stepBy k r store b .told) (stepBy k r store b .store) ++ bs)

@@ -6,7 +6,7 @@ use Prim.Native.Nat.{ℕ, suc, _+_, _-_, _%_}
 use lib.ListN.{length, take, drop}
 use lib.Dec.{leb, ltb}
 use Rattle.buffer.specs.Writing.{wrote, refused as refusedBy, paper, Left, leaves, writing}
-use Rattle.frame.specs.Judge.{Told, nothing, frame, refused}
+use Rattle.frame.specs.Judge.{Told, nothing, frame, refused, refusedAt}
 use Rattle.receiver.specs.declared.Receiver.{Receiver}
 use Rattle.receiver.specs.declared.Receiver.the-variants.{Waiting}
 use Rattle.receiver.specs.Step.{beyond, step}
@@ -32,11 +32,13 @@ abbrev pub framesThen : ℕ → Told → ℕ
 framesThen n nothing = n
 framesThen n (frame h lenid) = more n
 framesThen n (refused number) = n
+framesThen n (refusedAt number place) = n
 
 abbrev pub refusalsThen : ℕ → Told → ℕ
 refusalsThen n nothing = n
 refusalsThen n (frame h lenid) = n
 refusalsThen n (refused number) = more n
+refusalsThen n (refusedAt number place) = more n
 
 -- the listing after k bytes, the last of which gave what is told
 abbrev pub onward : Listing → ℕ → Receiver → Told → Listing

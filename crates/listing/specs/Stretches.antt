@@ -9,7 +9,8 @@ use Rattle.frame.specs.declared.Header.{Header}
 use Rattle.frame.specs.Frame.{SOI, infoAt}
 use Rattle.frame.specs.Judge.{refused}
 use Rattle.receiver.specs.Stream.{toldAt, Stretch}
-use Rattle.texts.specs.Block.{Block, frameBlock, refusalBlock}
+use Rattle.receiver.specs.Place.{BadStretch}
+use Rattle.texts.specs.Block.{Block, frameBlock, refusalBlock, placedBlock}
 
 -- the SOI at i opened the stretch of the byte at j: it is the last one before it
 pub record Opened (stream : List ℕ) (i j : ℕ) : Type 0 where
@@ -24,7 +25,7 @@ pub record Encoding (stream : List ℕ) (i : ℕ) (h : Header) (info : List ℕ)
   pub stretch : Stretch stream i cr h lenid
   pub is : info ≡ infoAt lenid (slice (suc i) cr stream)
 
--- a byte at which a fresh receiver refuses, with this number, in the stretch that the SOI at i opened
+-- a byte at which a fresh receiver refuses, with this number and no place, in the stretch that the SOI at i opened
 pub record Refusal (stream : List ℕ) (i number : ℕ) : Type 0 where
   pub byte : ℕ
   pub inside : byte < length stream
@@ -34,10 +35,12 @@ pub record Refusal (stream : List ℕ) (i number : ℕ) : Type 0 where
 abbrev pub Right : List ℕ → Block → Type 0
 Right stream (frameBlock at h info) = Encoding stream at h info
 Right stream (refusalBlock at number) = Refusal stream at number
+Right stream (placedBlock at number place) = (cr : ℕ) × BadStretch stream at cr number place
 
 abbrev pub at : Block → ℕ
 at (frameBlock i h info) = i
 at (refusalBlock i number) = i
+at (placedBlock i number place) = i
 
 -- each stretch is opened behind the one before it, and none before place n
 unfoldable pub Rising : ℕ → List Block → Type 0
@@ -45,7 +48,8 @@ Rising n [] = Unit {0}
 Rising n (b ∷ bs) = (n ≤ at b) × Rising (suc (at b)) bs
 
 pub record Tells (stream : List ℕ) (blocks : List Block) : Type 0 where
-  -- the frame blocks are the stretches that are whole encodings, the refusal blocks the bytes that are refused, all of them and no others
+  -- the frame blocks are the stretches that are whole encodings, the refusal blocks the bytes that are refused, those with a place the stretches
+  -- with a character that isn't hex, all of them and no others
   pub exactly : (b : Block) → Among b blocks ↔ Right stream b
   -- in the order of their SOIs, each once
   pub in-order : Rising 0 blocks

@@ -7,7 +7,7 @@ use Rattle.buffer.specs.declared.Written.{Written}
 use Rattle.buffer.specs.Put.{Put}
 use Rattle.buffer.specs.Writing.{wrote, paper}
 use Rattle.frame.specs.Frame.{infoAt}
-use Rattle.frame.specs.Judge.{Told, nothing, frame, refused}
+use Rattle.frame.specs.Judge.{Told, nothing, frame, refused, refusedAt}
 use Rattle.receiver.specs.Run.{Run}
 use Rattle.texts.specs.Block.{blockOf, sixLines, frameLines, lines}
 use Rattle.listing.specs.declared.Listing.{Listing}
@@ -37,6 +37,7 @@ abbrev pub Stands : Told → List ℕ → Type 0
 Stands nothing store = Unit {0}
 Stands (frame h lenid) store = (lenid ≤ 4094) × ((at : ℕ) → storedLines at lenid store ≡ frameLines at h (infoAt lenid store))
 Stands (refused number) store = Unit {0}
+Stands (refusedAt number place) store = Unit {0}
 
 -- a part was listed, and its lines put at place at
 pub record Puts (p : Part) (out : List ℕ) (at : ℕ) (answer : PartOf) (store′ out′ : List ℕ) : Type 0 where

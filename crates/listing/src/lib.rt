@@ -76,6 +76,13 @@ fn put_event(out: &mut [u8], at: usize, soi: u32, event: Event, store: &[u8]) ->
         Event::Nothing => at,
         Event::Frame(_, lenid) => put_stored(out, at, soi, lenid, store),
         Event::Refused(refusal) => texts::put_refusal(out, at, soi, refusal.number()),
+        Event::RefusedAt(refusal, place) => texts::put_placed(
+            out,
+            at,
+            soi,
+            refusal.number(),
+            place,
+        ),
     }
 }
 
@@ -86,6 +93,7 @@ fn frames_then(frames: u32, event: Event) -> u32
         Event::Nothing => frames,
         Event::Frame(_, _) => std::num::wrapping_add_u32(frames, 1),
         Event::Refused(_) => frames,
+        Event::RefusedAt(_, _) => frames,
     }
 }
 
@@ -96,6 +104,7 @@ fn refusals_then(refusals: u32, event: Event) -> u32
         Event::Nothing => refusals,
         Event::Frame(_, _) => refusals,
         Event::Refused(_) => std::num::wrapping_add_u32(refusals, 1),
+        Event::RefusedAt(_, _) => std::num::wrapping_add_u32(refusals, 1),
     }
 }
 

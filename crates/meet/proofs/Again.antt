@@ -43,8 +43,8 @@ use Rattle.reply.specs.declared.gate.Question.{Question}
 use Rattle.reply.specs.declared.Outcome.{Outcome}
 use Rattle.reply.specs.declared.Outcome.the-variants.{Read}
 use Rattle.reply.specs.declared.Reading.{Reading}
-use Rattle.reply.specs.Gate.{Gated, passed, refused as gateRefused, isReturnCode, asks, gate, frameGate}
-use Rattle.reply.specs.Read.{Data, Left, leaves, read, refused, paper, took, forAll, given, unless, readReply, Reads}
+use Rattle.reply.specs.Gate.{Gated, passed, refused as gateRefused, refusedAt as gateRefusedAt, isReturnCode, asks, gate, frameGate}
+use Rattle.reply.specs.Read.{Data, Left, leaves, read, refused, refusedAt, paper, took, forAll, given, unless, readReply, Reads}
 use Rattle.reply.proofs.Ways.{gate-passes}
 use Rattle.meet.specs.Asked.{asking, AskedBytes, faultFor}
 use Rattle.meet.specs.Read.{Again}
@@ -144,6 +144,7 @@ read-inv : (kept : Bool) (gated : Gated) (code ver ver′ flag : ℕ) (maker : L
     → (gated ≡ passed) × (code ≡ 0) × (ver′ ≡ ver) × (t ≡ told (flag, (maker, ns)))
 read-inv false gated code ver ver′ flag maker ms ns zero-code z t e = let o : read ver 0 flag ≡ refused 31 = ap (λ (l : Left). l .outcome) e in never (cc)
 read-inv true (gateRefused k) code ver ver′ flag maker ms ns zero-code z t e = let o : read ver 0 flag ≡ refused k = ap (λ (l : Left). l .outcome) e in never (cc)
+read-inv true (gateRefusedAt k p) code ver ver′ flag maker ms ns zero-code z t e = let o : read ver 0 flag ≡ refusedAt k p = ap (λ (l : Left). l .outcome) e in never (cc)
 read-inv true passed code ver ver′ flag maker ms ns false z t e =
     let o : read ver 0 flag ≡ read ver′ code 0 = ap (λ (l : Left). l .outcome) e in
     let c : code ≡ 0 = cc in

@@ -11,7 +11,7 @@ use Rattle.table.specs.declared.Station.{Station}
 use Rattle.table.specs.Table.{isOn, hasFault, isMaster, memberAt, anyFault}
 use Rattle.command.specs.Command.{kindOf, termsOf}
 use Rattle.command.specs.Heard.{Words, numberOf}
-use Rattle.standin.specs.Says.{Speech, Silent, Code, decide}
+use Rattle.standin.specs.Says.{Speech, Silent, Code, decide, unheard}
 use Rattle.reply.specs.Gate.{isReturnCode}
 
 abbrev pub Known : ℕ → Type 0
@@ -33,7 +33,7 @@ said-known st ms w code =
     let m = memberAt adr ms in
     let t = termsOf (kindOf (w .header .cid2)) in
     let group = eqb (w .command) 0xFF in
-    hush ((eqb number 1 || eqb number 3) || eqb number 4) _ code
+    hush (unheard number) _ code
     (hush (not (isOn m)) _ code
     (line (eqb number 5) 0x03 _ code (refl, omega arith)
     (line (eqb number 6 || eqb number 7) 0x05 _ code (refl, omega arith)

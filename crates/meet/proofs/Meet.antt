@@ -29,7 +29,7 @@ use Rattle.command.specs.Heard.{Words, words, numberOf}
 use Rattle.standin.specs.declared.Answered.{Answered}
 use Rattle.standin.specs.declared.Answered.the-variants.{Reply}
 use Rattle.standin.specs.declared.Replied.{Replied}
-use Rattle.standin.specs.Says.{Speech, Silent, Code, decide}
+use Rattle.standin.specs.Says.{Speech, Silent, Code, decide, unheard}
 use Rattle.standin.specs.Answer as Answer
 use Rattle.standin.specs.Answer.{infoBy, kindAsked, infoFor, replyHeader, written, says, answer, Answers}
 use Rattle.standin.proofs.Replies.{said-on}
@@ -91,7 +91,7 @@ said-asks st ms w e =
     let m = memberAt adr ms in
     let t = termsOf (kindOf (w .header .cid2)) in
     let group = eqb (w .command) 0xFF in
-    let e1 = hushed ((eqb number 1 || eqb number 3) || eqb number 4) _ e in
+    let e1 = hushed (unheard number) _ e in
     let e2 = hushed (not (isOn m)) _ e1 in
     let e3 = past (eqb number 5) 0x03 _ (λ z. omega arith) e2 in
     let e4 = past (eqb number 6 || eqb number 7) 0x05 _ (λ z. omega arith) (e3 .1) in

@@ -1,7 +1,7 @@
 -- What the stand-in's table holds after its answer: with an accepted 95H one module is off, after any other answer all is as it was. List work on the place that is set.
 use mathlib.Core.Path.{_≡_, refl, sym, ap, _∙_}
 use mathlib.Core.Logic.{⊎-elim}
-use mathlib.Core.Bool.{Bool, true, false, cond, not, _||_, and-false}
+use mathlib.Core.Bool.{Bool, true, false, cond, not, and-false}
 use mathlib.Core.List.{List, [], _∷_}
 use Prim.Native.Nat.{ℕ, _≤_, _<_}
 use native.Mathlib.Nat.{le-refl}
@@ -15,7 +15,7 @@ use Rattle.table.specs.declared.Station.{Station}
 use Rattle.table.specs.Table.{blank, isOn, placeOf, hasMember, memberAt}
 use Rattle.command.specs.Heard.{Words, numberOf}
 use Rattle.table.specs.Changes.{switchedOff}
-use Rattle.standin.specs.Says.{Speech, Silent, decide}
+use Rattle.standin.specs.Says.{Speech, Silent, decide, unheard}
 use Rattle.standin.specs.Answer.{offFor, offAt}
 use Rattle.meet.specs.Off.{TurnedOff}
 use Rattle.meet.proofs.Kept.{Changed, set-changed, off-safe, off-rule}
@@ -60,7 +60,7 @@ module _ (adr : ℕ) (ms : List Module) where
       let number = numberOf (w .told) in
       let ns = offAt (placeOf adr ms) ms in
       let off : not (isOn (memberAt (w .header .adr) ns)) ≡ true = ap (λ (a : ℕ). not (isOn (memberAt a ns))) e ∙ ap (λ (m : Module). not (isOn m)) off-member in
-      quiet ((eqb number 1 || eqb number 3) || eqb number 4) (not (isOn (memberAt (w .header .adr) ns))) _ off
+      quiet (unheard number) (not (isOn (memberAt (w .header .adr) ns))) _ off
 
   pub turned-off : TurnedOff adr ms (offAt (placeOf adr ms) ms)
   unfolding offAt

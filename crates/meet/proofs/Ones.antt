@@ -12,10 +12,10 @@ use Rattle.standin.specs.declared.Answered.the-variants.{Silence, Reply, Refuse
 use Rattle.standin.specs.declared.Replied.{Replied}
 use Rattle.standin.specs.Answer as Answer
 use Rattle.reply.specs.declared.gate.Entry as E
-use Rattle.reply.specs.declared.gate.Entry.the-variants.{Open, Refused as Shut}
+use Rattle.reply.specs.declared.gate.Entry.the-variants.{Open, Refused as Shut, RefusedAt as ShutAt}
 use Rattle.reply.specs.Gate as Gate
 use Rattle.reply.specs.declared.Outcome as O
-use Rattle.reply.specs.declared.Outcome.the-variants.{Read, Refused as Declined}
+use Rattle.reply.specs.declared.Outcome.the-variants.{Read, Refused as Declined, RefusedAt as DeclinedAt}
 use Rattle.reply.specs.declared.Reading.{Reading}
 use Rattle.reply.specs.Read as Reads
 
@@ -42,6 +42,14 @@ outcome-injective (Read v c f) (Read v′ c′ f′) e = cc
 outcome-injective (Read v c f) (Declined r) e = never (cc)
 outcome-injective (Declined q) (Read v c f) e = never (cc)
 outcome-injective (Declined q) (Declined r) e = let n : number q ≡ number r = cc in ap Declined (number-injective q r n)
+outcome-injective (Read v c f) (DeclinedAt r p) e = never (cc)
+outcome-injective (Declined q) (DeclinedAt r p) e = never (cc)
+outcome-injective (DeclinedAt q p) (Read v c f) e = never (cc)
+outcome-injective (DeclinedAt q p) (Declined r) e = never (cc)
+outcome-injective (DeclinedAt q p) (DeclinedAt r p′) e =
+    let n : number q ≡ number r = cc in
+    let same : p ≡ p′ = cc in
+    λ i. DeclinedAt (number-injective q r n i) (same i)
 
 -- the reply reader: what it tells, the 32 bytes of 51H, and the table
 pub reading-one : (left : Reads.Left) (t : Table) (a b : Reading) → Reads.Reads left t a → Reads.Reads left t b → a ≡ b
@@ -56,6 +64,14 @@ entry-injective Open Open e = refl
 entry-injective Open (Shut r) e = never (cc)
 entry-injective (Shut q) Open e = never (cc)
 entry-injective (Shut q) (Shut r) e = let n : number q ≡ number r = cc in ap Shut (number-injective q r n)
+entry-injective Open (ShutAt r p) e = never (cc)
+entry-injective (Shut q) (ShutAt r p) e = never (cc)
+entry-injective (ShutAt q p) Open e = never (cc)
+entry-injective (ShutAt q p) (Shut r) e = never (cc)
+entry-injective (ShutAt q p) (ShutAt r p′) e =
+    let n : number q ≡ number r = cc in
+    let same : p ≡ p′ = cc in
+    λ i. ShutAt (number-injective q r n i) (same i)
 
 -- the gate
 pub gate-one : (g : Gate.Gated) (a b : E.Entry) → Gate.paper a ≡ g → Gate.paper b ≡ g → a ≡ b

@@ -1,7 +1,7 @@
 -- What is told of a damaged stretch: over characters an open receiver says nothing, so only its tilde, a character too many and its CR are heard.
 use mathlib.Core.Path.{_≡_, refl, sym, ap, _∙_, subst}
 use mathlib.Core.Logic.{_≢_}
-use mathlib.Core.Bool.{false, cond}
+use mathlib.Core.Bool.{Bool, true, false, cond}
 use mathlib.Core.List.{List, [], _∷_, _++_, append-nil, append-assoc, List·Memᴰ as Among, List·Memᴰ·head}
 use mathlib.Core.Option.{some}
 use Prim.Native.Nat.{ℕ, suc, _+_, _-_, _%_, _≤_, _<_}
@@ -9,14 +9,16 @@ use native.Mathlib.Decide.{ℕ-discrete}
 use native.Mathlib.Omega.{arith}
 use lib.ListN.{length, getD, take, drop, set, length-append, take-append-drop}
 use lib.Seq.{set-split, append-snoc, length-take-le, take-take, slice, length-slice, split-at, drop-append-le, drop-length}
-use lib.Dec.{ltb, eqb, ltb→lt, nltb→le}
+use lib.Dec.{T, ltb, eqb, ltb→lt, nltb→le}
 use borrow.Author.Tests.{lt-ltb, le-ltb, le-leb, lt-leb, eq-eqb, ne-eqb}
 use Rattle.buffer.proofs.Lists.{by-cond, never}
-use Rattle.hex.proofs.Laws.{said, Hexy, hexy-cut, hexy-join}
+use Rattle.hex.specs.Hex.{isHex}
+use Rattle.hex.proofs.Laws.{said, hex-said, Hexy, hexy-cut, hexy-join}
 use Rattle.frame.specs.declared.Header.{Header}
 use Rattle.frame.specs.Frame.{SOI, CR}
-use Rattle.frame.specs.Judge.{Told, nothing, frame, refused, judge}
-use Rattle.frame.proofs.Judging.{judge-accepts, short-refused, odd-refused, hex-refused, any-refused}
+use Rattle.frame.specs.Judge.{Told, isRefusal, nothing, frame, refused, refusedAt, badNumber, judge}
+use Rattle.frame.proofs.Judging.{judge-accepts, short-refused, odd-refused, hex-refused}
+use Rattle.frame.proofs.Places.{bad-refused}
 use Rattle.frame.proofs.Changes.{whole-one-place, prefix-refused}
 use Rattle.receiver.specs.declared.Receiver.{Receiver}
 use Rattle.receiver.specs.declared.Receiver.the-variants.{Waiting, Open}
@@ -26,7 +28,7 @@ use Rattle.receiver.specs.Pass.{Fits}
 use Rattle.receiver.specs.Stream.{after, along, Stretch}
 use Rattle.receiver.specs.Calls.{Can, Caller, Calls, taken, here}
 use Rattle.receiver.specs.Damage.{lost, doubled, exchanged, inside, toldIn, ToldOf}
-use Rattle.receiver.proofs.Rows.{step-within, row-idle, row-again}
+use Rattle.receiver.proofs.Rows.{is-other, step-within, row-idle, row-again}
 use Rattle.receiver.proofs.Receive.{Plain, kind-soi, kind-cr, kind-hex, hexy-plain, plain-join, held, holds, after-fits, after-join, step-soi, step-cr, step-more, after-plain}
 use Rattle.receiver.proofs.Streams.{cut, cut-stretch, hexy-frame, wire, doubled-at, long, size, span, left, parted, whole, within}
 use Rattle.receiver.proofs.Exchanged as X
@@ -77,7 +79,7 @@ module _ (a b : ℕ) where
       by-cond (λ (l : List (ℕ × Told)). l ≡ []) (isNothing t) (λ _. refl)
       (λ _. by-cond (λ (l : List (ℕ × Told)). l ≡ []) (ltb a n) (λ _. rw (lt-leb n (suc b) h) refl) (λ _. refl))
 
-  there : (n : ℕ) (t : Told) (store : List ℕ) → isNothing t ≡ false → a ≤ n → n ≤ b → inside a b (suc n) t store ≡ (n, t) ∷ []
+  pub there : (n : ℕ) (t : Told) (store : List ℕ) → isNothing t ≡ false → a ≤ n → n ≤ b → inside a b (suc n) t store ≡ (n, t) ∷ []
   unfolding inside
   there n t store e h l = rw (e, lt-ltb a (suc n) (omega arith), le-leb (suc n) (suc b) (omega arith)) (ap (λ (m : ℕ). (m, t) ∷ []) (let q : suc n - 1 ≡ n = omega arith in q))
 
@@ -88,7 +90,7 @@ module _ (a b : ℕ) where
       let z = step r store c in
       λ i. early (suc n) (z .told) (z .store) (omega arith) i ++ along-early s (suc n) (z .next) (z .store) (omega arith) i
 
-  along-late : (s : List ℕ) (n : ℕ) (r : Receiver) (store : List ℕ) → b < n → along (inside a b) n r store s ≡ []
+  pub along-late : (s : List ℕ) (n : ℕ) (r : Receiver) (store : List ℕ) → b < n → along (inside a b) n r store s ≡ []
   unfolding along
   along-late [] n r store h = refl
   along-late (c ∷ s) n r store h =
@@ -163,7 +165,7 @@ module _ (a b : ℕ) where
       }
 
   module _ (store : List ℕ) (room : 4110 ≤ length store) where
-    from-fresh : (pre s : List ℕ) → length pre ≤ a
+    pub from-fresh : (pre s : List ℕ) → length pre ≤ a
         → along (inside a b) 0 Waiting store (pre ++ s) ≡ along (inside a b) (length pre) (after Waiting store pre .next) (after Waiting store pre .store) s
     from-fresh pre s h =
         let z = after Waiting store pre in
@@ -370,12 +372,29 @@ last-of c n l h =
 module _ (caller : Caller)
     (takes : (a b : ℕ) (r : Receiver) (store stream : List ℕ) (c : caller .Call) → Fits r store → Can (caller .asked c) stream → caller .Keeps r store stream c
     → Took (inside a b) (silent a b) r store stream (caller .leaves c)) where
+  -- what stands behind those places does not matter
+  pub told-in : (store : List ℕ) → 4110 ≤ length store → (a b : ℕ) (s : List ℕ) (cs : List (caller .Call)) → Calls caller Waiting store s cs → suc b ≤ taken caller cs
+      → toldIn a b caller cs ≡ along (inside a b) 0 Waiting store s
+  told-in store room a b s cs calls l =
+      let m = taken caller cs in
+      let k = any-cutting (inside a b) (silent a b) caller (takes a b) cs 0 Waiting store s (room, omega arith) calls in
+      let z = after Waiting store (take m s) in
+      let first = along (inside a b) 0 Waiting store (take m s) in
+      k .1
+      ∙ sym
+      (ap (along (inside a b) 0 Waiting store) (sym (take-append-drop m s))
+      ∙ along-join (inside a b) (silent a b) (take m s) (drop m s) 0 Waiting store
+      ∙ ap (λ (l : List (ℕ × Told)). first ++ l) (along-late a b (drop m s) (0 + length (take m s)) (z .next) (z .store) (omega (arith, length-take-le m s (k .0))))
+      ∙ append-nil first)
+
   pub told-of : (store : List ℕ) → 4110 ≤ length store → ToldOf caller store
   told-of store room =
       record {
         changed-told = λ s i j h n f k b l r ne cs calls m.
             let e = changed s i j h n f k l r b ne (kind b) refl in
-            (e .0, e .1, e .2, heard (suc i) j (set s k b) cs calls m ∙ e .3);
+            (e .0, e .1, e .2, e .3, told-in store room (suc i) j (set s k b) cs calls m ∙ e .4);
+        bad-told = λ s i j h n f k b l r odd ns nc cs calls m.
+            told-in store room (suc i) j (set s k b) cs calls m ∙ bad s i j h n f k l r b (is-other b ns nc) odd;
         lost-told = λ s i j h n f k l r cs calls m.
             let v = without s i j h n f k l r in
             let w = without-is s i j h n f k l r in
@@ -385,7 +404,7 @@ module _ (caller : Caller)
             let q = before-it s i j h n f in (
               o .0,
               o .1,
-              heard (suc i) (j - 1) (lost k s) cs calls (omega (arith, p))
+              told-in store room (suc i) (j - 1) (lost k s) cs calls (omega (arith, p))
                   ∙ ap (along (inside (suc i) (j - 1)) 0 Waiting store) (w .2)
                   ∙ judged-told (suc i) (j - 1) store room (take i s) v (drop (suc j) s) (omega (arith, q)) (omega (arith, q, p, w .1)) (hexy-plain v (w .0)) (omega (arith, w .1)) (refused (o .0)) (o .2) refl,
             );
@@ -397,7 +416,7 @@ module _ (caller : Caller)
             let q = before-it s i j h n f in (
               o .0,
               o .1,
-              heard (suc i) (suc j) (doubled k s) cs calls m
+              told-in store room (suc i) (suc j) (doubled k s) cs calls m
                   ∙ ap (along (inside (suc i) (suc j)) 0 Waiting store) (w .2)
                   ∙ judged-told (suc i) (suc j) store room (take i s) v (drop (suc j) s) (omega (arith, q)) (omega (arith, q, p, w .1)) (hexy-plain v (w .0)) (omega (arith, w .1)) (refused (o .0)) (o .2) refl,
             );
@@ -407,7 +426,7 @@ module _ (caller : Caller)
             let p = span s i j h 4094 f in
             let o = last-of v 4110 (w .1) (w .0) in
             let q = before-it s i j h 4094 f in
-            heard (suc i) (suc j) (doubled k s) cs calls m
+            told-in store room (suc i) (suc j) (doubled k s) cs calls m
             ∙ ap (along (inside (suc i) (suc j)) 0 Waiting store) (w .2 ∙ ap (λ (c : List ℕ). wire (take i s) c (drop (suc j) s)) (o .2))
             ∙ more-told (suc i) (suc j) store room (take i s) (o .0) (o .1) (drop (suc j) s) j (omega (arith, q)) (omega (arith, q, p, o .3)) refl (hexy-plain (o .0) (o .4)) (kind-hex (o .1) (o .5)) (o .3);
         doubled-soi = λ s i j h n f cs calls m.
@@ -415,7 +434,7 @@ module _ (caller : Caller)
             let z = size s i j h n f in
             let p = span s i j h n f in
             let q = before-it s i j h n f in
-            heard (suc i) (suc j) (doubled i s) cs calls m
+            told-in store room (suc i) (suc j) (doubled i s) cs calls m
             ∙ ap (along (inside (suc i) (suc j)) 0 Waiting store) (soi-twice s i j h n f)
             ∙ twice-told (suc i) (suc j) store room (take i s) c (drop (suc j) s) (omega (arith, q)) (omega (arith, q, p, z)) (hexy-plain c (hexy s i j h n f)) (omega (arith, z, few s i j h n f)) (frame h n) (judged s i j h n f) refl;
         doubled-cr = λ s i j h n f cs calls m.
@@ -423,14 +442,14 @@ module _ (caller : Caller)
             let z = size s i j h n f in
             let p = span s i j h n f in
             let q = before-it s i j h n f in
-            heard (suc i) (suc j) (doubled j s) cs calls m
+            told-in store room (suc i) (suc j) (doubled j s) cs calls m
             ∙ ap (along (inside (suc i) (suc j)) 0 Waiting store) (cr-twice s i j h n f)
             ∙ judged-once (suc i) (suc j) store room (take i s) c (drop (suc j) s) j (omega (arith, q)) (omega (arith, q, p, z)) refl (hexy-plain c (hexy s i j h n f)) (omega (arith, z, few s i j h n f)) (frame h n) (judged s i j h n f) refl;
         cut-off = λ s i j h n f k l r rest cs calls m.
             let p = span s i j h n f in
             let q = before-it s i j h n f in
             let z = first-size s i j h n f k l r in
-            heard (suc i) k (take k s ++ SOI ∷ rest) cs calls m
+            told-in store room (suc i) k (take k s ++ SOI ∷ rest) cs calls m
             ∙ ap (along (inside (suc i) k) 0 Waiting store) (cut-short s i j h n f k l r (SOI ∷ rest))
             ∙ again-told (suc i) k store room (take i s) (slice (suc i) k s) rest (omega (arith, q)) (omega (arith, q, z)) (hexy-plain (slice (suc i) k s) (first-hexy s i j h n f k l r)) (omega (arith, z, p, few s i j h n f));
         cut-closed = λ s i j h n f k l r rest cs calls m.
@@ -440,7 +459,7 @@ module _ (caller : Caller)
             let q = before-it s i j h n f in
             let z = first-size s i j h n f k l b in
             let e = prefix-refused c (getD s k 0) (slice (suc k) j s) (whole s i j h n f k l r) ∙ ap (λ (size : ℕ). refused (cond (ltb size 16) 3 7)) z in
-            heard (suc i) k (take k s ++ CR ∷ rest) cs calls m
+            told-in store room (suc i) k (take k s ++ CR ∷ rest) cs calls m
             ∙ ap (along (inside (suc i) k) 0 Waiting store) (cut-cr s i j h n f k l b rest)
             ∙ judged-told (suc i) k store room (take i s) c rest (omega (arith, q)) (omega (arith, q, z)) (hexy-plain c (first-hexy s i j h n f k l b)) (omega (arith, z, p, few s i j h n f)) (refused (cond (ltb (k - suc i) 16) 3 7)) e refl;
         exchanged-told = λ s i j h n f k l r out ne cs calls m.
@@ -450,16 +469,23 @@ module _ (caller : Caller)
             let o = hex-refused c (omega (arith, p)) (omega (arith, p, few s i j h n f)) (X.not-whole s i j h n f k l r out ne) (X.now-hexy s i j h n f k l r) in (
               o .0,
               o .1,
-              heard (suc i) j (exchanged k s) cs calls m
+              told-in store room (suc i) j (exchanged k s) cs calls m
                   ∙ ap (along (inside (suc i) j) 0 Waiting store) (X.now s i j h n f k l r)
                   ∙ judged-told (suc i) j store room (take i s) c (drop (suc j) s) (omega (arith, q)) (omega (arith, q, p)) (hexy-plain c (X.now-hexy s i j h n f k l r)) (omega (arith, p, few s i j h n f)) (refused (o .0)) (o .2) refl,
             );
       }
     where
+      -- what is told first, where the character at k becomes b
+      First : List ℕ → ℕ → ℕ → ℕ → ℕ → Type 0
+      First s i j k b = (p : ℕ) × (t : Told) × (isRefusal t ≡ true) × (es : List (ℕ × Told)) × (along (inside (suc i) j) 0 Waiting store (set s k b) ≡ (p, t) ∷ es)
+
+      changed-size : (s : List ℕ) (i j : ℕ) (h : Header) (n : ℕ) (f : Stretch s i j h n) (k : ℕ) (l : i < k) (r : k < j) (b : ℕ) → length (slice (suc i) k s ++ b ∷ slice (suc k) j s) ≡ 16 + n
+      changed-size s i j h n f k l r b = omega (arith, parts s i j h n f k l r .1, length-append (slice (suc i) k s) (b ∷ slice (suc k) j s))
+
       -- a character that became a byte v at which the others are refused
       at-once : (s : List ℕ) (i j : ℕ) (h : Header) (n : ℕ) (f : Stretch s i j h n) (k : ℕ) (l : i < k) (r : k < j) (b v : ℕ) → b ≡ v → (t : ℕ)
           → ((o : Receiver) (store : List ℕ) → Fits o store → held o store ≡ some (slice (suc i) k s) → step o store v .told ≡ refused t)
-          → (p : ℕ) × (t : ℕ) × (es : List (ℕ × Told)) × (along (inside (suc i) j) 0 Waiting store (set s k b) ≡ (p, refused t) ∷ es)
+          → First s i j k b
       at-once s i j h n f k l r b v e t tells =
           let c = slice (suc i) k s in
           let rest = drop (suc k) s in
@@ -469,45 +495,50 @@ module _ (caller : Caller)
           (omega (arith, z, span s i j h n f, few s i j h n f)) (refused t) tells refl in
           let is : set s k b ≡ take i s ++ SOI ∷ (c ++ v ∷ rest) =
           set-split s k b (omega (arith, long s i j h n f)) ∙ ap (λ (w : ℕ). take k s ++ w ∷ rest) e ∙ cut-short s i j h n f k l (omega arith) (v ∷ rest) in
-          (k, t, g .0, ap (along (inside (suc i) j) 0 Waiting store) is ∙ g .1)
+          (k, refused t, refl, g .0, ap (along (inside (suc i) j) 0 Waiting store) is ∙ g .1)
 
-      -- a tilde, a CR, or any other
-      changed : (s : List ℕ) (i j : ℕ) (h : Header) (n : ℕ) (f : Stretch s i j h n) (k : ℕ) (l : i < k) (r : k < j) (b : ℕ) → b ≢ getD s k 0 → (of : Kind) → kind b ≡ of
-          → (p : ℕ) × (t : ℕ) × (es : List (ℕ × Told)) × (along (inside (suc i) j) 0 Waiting store (set s k b) ≡ (p, refused t) ∷ es)
-      changed s i j h n f k l r b ne soi e = at-once s i j h n f k l r b SOI (kind-soi b e) 2 (λ o t g q. ap (λ (z : After). z .told) (hears-soi o t (slice (suc i) k s) g q))
-      changed s i j h n f k l r b ne cr e =
-          let c = slice (suc i) k s in
-          at-once s i j h n f k l r b CR (kind-cr b e) (cond (ltb (length c) 16) 3 7)
-          (λ o t g q. ap (λ (z : After). z .told) (step-cr o t c g q) ∙ prefix-refused c (getD s k 0) (slice (suc k) j s) (whole s i j h n f k l r))
-      changed s i j h n f k l r b ne other e =
+      -- any other: the characters are judged at the CR
+      at-cr : (s : List ℕ) (i j : ℕ) (h : Header) (n : ℕ) (f : Stretch s i j h n) (k : ℕ) (l : i < k) (r : k < j) (b : ℕ) → kind b ≡ other → (t : Told)
+          → judge (slice (suc i) k s ++ b ∷ slice (suc k) j s) ≡ t → isNothing t ≡ false → along (inside (suc i) j) 0 Waiting store (set s k b) ≡ (j, t) ∷ []
+      at-cr s i j h n f k l r b e t is loud =
           let u = slice (suc i) k s in
           let v = slice (suc k) j s in
           let c = u ++ b ∷ v in
           let p = parts s i j h n f k l r in
           let q = before-it s i j h n f in
-          let size : length c ≡ 16 + n = omega (arith, p .1, length-append u (b ∷ v)) in
-          let o = any-refused c (omega (arith, size)) (omega (arith, size, few s i j h n f)) (λ w. ne (sym (whole-one-place u (getD s k 0) b v (whole s i j h n f k l r) w))) in (
-            j,
-            o .0,
-            [],
-            ap (along (inside (suc i) j) 0 Waiting store) (set-split s k b (omega (arith, long s i j h n f)) ∙ within s i j h n f k l r (b ∷ []))
-                ∙ judged-told (suc i) j store room (take i s) c (drop (suc j) s) (omega (arith, q)) (omega (arith, q, size, span s i j h n f)) (plain-join u (b ∷ v) (hexy-plain u (p .0 .0)) (e, hexy-plain v (p .0 .1 .1))) (omega (arith, size, few s i j h n f)) (refused (o .0)) (o .1) refl,
-          )
+          let size = changed-size s i j h n f k l r b in
+          ap (along (inside (suc i) j) 0 Waiting store) (set-split s k b (omega (arith, long s i j h n f)) ∙ within s i j h n f k l r (b ∷ []))
+          ∙ judged-told (suc i) j store room (take i s) c (drop (suc j) s) (omega (arith, q)) (omega (arith, q, size, span s i j h n f)) (plain-join u (b ∷ v) (hexy-plain u (p .0 .0)) (e, hexy-plain v (p .0 .1 .1))) (omega (arith, size, few s i j h n f)) t is loud
 
-      -- what stands behind those places does not matter
-      heard : (a b : ℕ) (s : List ℕ) (cs : List (caller .Call)) → Calls caller Waiting store s cs → suc b ≤ taken caller cs
-          → toldIn a b caller cs ≡ along (inside a b) 0 Waiting store s
-      heard a b s cs calls l =
-          let m = taken caller cs in
-          let k = any-cutting (inside a b) (silent a b) caller (takes a b) cs 0 Waiting store s (room, omega arith) calls in
-          let z = after Waiting store (take m s) in
-          let first = along (inside a b) 0 Waiting store (take m s) in
-          k .1
-          ∙ sym
-          (ap (along (inside a b) 0 Waiting store) (sym (take-append-drop m s))
-          ∙ along-join (inside a b) (silent a b) (take m s) (drop m s) 0 Waiting store
-          ∙ ap (λ (l : List (ℕ × Told)). first ++ l) (along-late a b (drop m s) (0 + length (take m s)) (z .next) (z .store) (omega (arith, length-take-le m s (k .0))))
-          ∙ append-nil first)
+      -- it isn't hex
+      bad : (s : List ℕ) (i j : ℕ) (h : Header) (n : ℕ) (f : Stretch s i j h n) (k : ℕ) (l : i < k) (r : k < j) (b : ℕ) → kind b ≡ other → isHex b ≡ false
+          → along (inside (suc i) j) 0 Waiting store (set s k b) ≡ (j, refusedAt (badNumber b) (k - suc i)) ∷ []
+      bad s i j h n f k l r b e odd =
+          let u = slice (suc i) k s in
+          let size = changed-size s i j h n f k l r b in
+          let at = first-size s i j h n f k l (omega arith) in
+          at-cr s i j h n f k l r b e (refusedAt (badNumber b) (k - suc i))
+          (bad-refused u b (slice (suc k) j s) (parts s i j h n f k l r .0 .0) odd (omega (arith, size)) (omega (arith, size, few s i j h n f)) ∙ ap (refusedAt (badNumber b)) at) refl
+
+      -- a tilde, a CR, or any other
+      changed : (s : List ℕ) (i j : ℕ) (h : Header) (n : ℕ) (f : Stretch s i j h n) (k : ℕ) (l : i < k) (r : k < j) (b : ℕ) → b ≢ getD s k 0 → (of : Kind) → kind b ≡ of → First s i j k b
+      changed s i j h n f k l r b ne soi e = at-once s i j h n f k l r b SOI (kind-soi b e) 2 (λ o t g q. ap (λ (z : After). z .told) (hears-soi o t (slice (suc i) k s) g q))
+      changed s i j h n f k l r b ne cr e =
+          let c = slice (suc i) k s in
+          at-once s i j h n f k l r b CR (kind-cr b e) (cond (ltb (length c) 16) 3 7)
+          (λ o t g q. ap (λ (z : After). z .told) (step-cr o t c g q) ∙ prefix-refused c (getD s k 0) (slice (suc k) j s) (whole s i j h n f k l r))
+      changed s i j h n f k l r b ne other e = go (isHex b) refl
+        where
+          go : (hex : Bool) → isHex b ≡ hex → First s i j k b
+          go false odd = (j, refusedAt (badNumber b) (k - suc i), refl, [], bad s i j h n f k l r b e odd)
+          go true is =
+              let u = slice (suc i) k s in
+              let v = slice (suc k) j s in
+              let p = parts s i j h n f k l r in
+              let size = changed-size s i j h n f k l r b in
+              let hexy = hexy-join u (b ∷ v) (p .0 .0) (hex-said b (subst T (sym is) tt), p .0 .1 .1) in
+              let o = hex-refused (u ++ b ∷ v) (omega (arith, size)) (omega (arith, size, few s i j h n f)) (λ w. ne (sym (whole-one-place u (getD s k 0) b v (whole s i j h n f k l r) w))) hexy in
+              (j, refused (o .0), refl, [], at-cr s i j h n f k l r b e (refused (o .0)) (o .2) refl)
 
 pub damage-told : (store : List ℕ) → 4110 ≤ length store → ToldOf here store
 damage-told = told-of here (λ a b. took-call (inside a b) (silent a b))

@@ -9,7 +9,7 @@ use lib.ListN.{length, getD, take, drop, set, length-take}
 use lib.Seq.{take-suc, take-length, take-take, length-take-le, getD-take}
 use Rattle.frame.specs.declared.Header.{Header}
 use Rattle.frame.specs.Frame.{infoAt, Frames}
-use Rattle.frame.specs.Judge.{Told, nothing, frame, refused}
+use Rattle.frame.specs.Judge.{Told, nothing, frame, refused, refusedAt}
 use Rattle.receiver.specs.declared.Receiver.{Receiver}
 use Rattle.receiver.specs.declared.Receiver.the-variants.{Waiting}
 use Rattle.receiver.specs.Step.{step}
@@ -51,6 +51,7 @@ in-order (b ∷ s) n r store =
     go nothing store os h = later n os h
     go (frame g m) store os h = subst (λ (l : List Out). InOrder n (l ++ os)) (sym (out-at n g m store)) (omega arith, h)
     go (refused k) store os h = later n os h
+    go (refusedAt k p) store os h = later n os h
 
 -- ---- exactly: by places
 
@@ -80,6 +81,7 @@ module _ (store s : List ℕ) (room : 4110 ≤ length store) where
           let f = exactly store s n g l room .0 e in
           subst (λ (x : Out). (i : ℕ) × Of s i x) (sym (List·Memᴰ·eq-of-singleton (subst (List·Memᴰ o) (out-at n g l (storeAt store s n)) k))) (f .0, record { stretch = f .1; info = info-in-store store s (f .0) n g l room (f .1) })
       here (refused x) e k = absurd (List·Memᴰ·not-nil k)
+      here (refusedAt x p) e k = absurd (List·Memᴰ·not-nil k)
 
       go : (List·Memᴰ o (along out 0 Waiting store (take n s)) → (i : ℕ) × Of s i o)
           → List·Memᴰ o (along out 0 Waiting store (take n s)) ⊎ List·Memᴰ o (out (suc n) (toldAt store s n) (storeAt store s n)) → (i : ℕ) × Of s i o

@@ -8,4 +8,5 @@ pub mod Bound
 pub mod There
 pub mod Demand
 pub mod Damage
+pub mod Places
 pub mod Exchanged

@@ -11,10 +11,10 @@ use lib.Seq.{take-take, take-add, length-take-le, drop-nil}
 use Rattle.refusal.specs.Number.{number}
 use Rattle.refusal.proofs.Numbers.{number-injective}
 use Rattle.buffer.proofs.Lists.{never, by-cond}
-use Rattle.frame.specs.Judge.{Told, nothing, frame, refused}
+use Rattle.frame.specs.Judge.{Told, nothing, frame, refused, refusedAt}
 use Rattle.receiver.specs.declared.Receiver.{Receiver}
 use Rattle.receiver.specs.declared.Event.{Event}
-use Rattle.receiver.specs.declared.Event.the-variants.{Nothing, Frame, Refused}
+use Rattle.receiver.specs.declared.Event.the-variants.{Nothing, Frame, Refused, RefusedAt}
 use Rattle.receiver.specs.declared.Stepped.{Stepped}
 use Rattle.receiver.specs.declared.Ran.{Ran}
 use Rattle.receiver.specs.Step.{After, gives, step, paper, Steps}
@@ -37,6 +37,16 @@ paper-injective (Frame h m) (Refused r) e = never (cc)
 paper-injective (Refused q) Nothing e = never (cc)
 paper-injective (Refused q) (Frame g n) e = never (cc)
 paper-injective (Refused q) (Refused r) e = let n : number q ≡ number r = cc in ap Refused (number-injective q r n)
+paper-injective Nothing (RefusedAt r p) e = never (cc)
+paper-injective (Frame h m) (RefusedAt r p) e = never (cc)
+paper-injective (Refused q) (RefusedAt r p) e = never (cc)
+paper-injective (RefusedAt q p) Nothing e = never (cc)
+paper-injective (RefusedAt q p) (Frame g n) e = never (cc)
+paper-injective (RefusedAt q p) (Refused r) e = never (cc)
+paper-injective (RefusedAt q p) (RefusedAt r p′) e =
+    let n : number q ≡ number r = cc in
+    let same : p ≡ p′ = cc in
+    λ i. RefusedAt (number-injective q r n i) (same i)
 
 pub steps-one : (r : Receiver) (store : List ℕ) (b : ℕ) (s t : Stepped) (store′ store″ : List ℕ) → Steps r store b s store′ → Steps r store b t store″
     → (s ≡ t) × (store′ ≡ store″)
@@ -111,6 +121,7 @@ module _ {A : Type 0} (note : ℕ → Told → List ℕ → List A) (mute : (n :
         silent nothing q n store = mute n store
         silent (frame h m) q n store = never (cc)
         silent (refused k) q n store = never (cc)
+        silent (refusedAt k p) q n store = never (cc)
     took-turn a e g false q = took-one b bs r store (countOf r) a e
 
   took-run : (piece : List ℕ) (r : Receiver) (store : List ℕ) → Took r store piece (stepping r store piece)

@@ -8,76 +8,97 @@ use lib.ListN.{length, getD, take, drop, length-append}
 use lib.Seq.{drop-drop}
 use lib.Dec.{ltb}
 use Rattle.refusal.specs.declared.Refusal.{Refusal}
-use Rattle.refusal.specs.declared.Refusal.the-variants.{TooLong, SoiInside, TooShort, NotHex, LchksumDiffers, LenidOdd, CountDiffers, ChksumDiffers, BufferTooShort, ReceiverBeyondStore}
+use Rattle.refusal.specs.declared.Refusal.the-variants.{TooLong, SoiInside, TooShort, LowerCase, LchksumDiffers, LenidOdd, CountDiffers, ChksumDiffers, NoHexDigit, BufferTooShort, ReceiverBeyondStore}
 use Rattle.refusal.specs.Number.{number}
 use Rattle.buffer.proofs.Lists.{by-cond}
-use Rattle.frame.specs.Judge.{Told, need, judge, header, lenid}
+use Rattle.frame.specs.declared.Header.{Header}
+use Rattle.hex.specs.Hex.{allHex, badPlace, isLower}
+use Rattle.frame.specs.Judge.{Told, nothing, frame, refused, refusedAt, carriesPlace, need, needHex, judge, header, lenid}
 use Rattle.receiver.specs.declared.Receiver.{Receiver}
 use Rattle.receiver.specs.declared.Receiver.the-variants.{Waiting, Open}
 use Rattle.receiver.specs.declared.Event.{Event}
-use Rattle.receiver.specs.declared.Event.the-variants.{Nothing, Frame, Refused}
+use Rattle.receiver.specs.declared.Event.the-variants.{Nothing, Frame, Refused, RefusedAt}
 use Rattle.receiver.specs.Step.{Kind, soi, cr, other, kind, After, stepBy, beyond, step, paper}
 use Rattle.receiver.specs.Run.{Run, isNothing, stepping, run}
 use Rattle.receiver.specs.Calls.{Asked, toRun, toStep, Can, Caller, Calls, Offered, taken, Call, ran, stepped, asked, Keeps}
 use Rattle.receiver.specs.Demand.{Demand3}
 
--- ---- an event for what is told
+-- ---- whatever is told
 
+-- what holds of nothing, of frames, and of refusals, each with a place where its number carries one
+pub record Holds (P : Told → Type 0) : Type 0 where
+  pub quiet : P nothing
+  pub whole : (h : Header) (n : ℕ) → P (frame h n)
+  pub plain : (r : Refusal) → carriesPlace (number r) ≡ false → P (refused (number r))
+  pub placed : (r : Refusal) → carriesPlace (number r) ≡ true → (p : ℕ) → P (refusedAt (number r) p)
+
+-- holds of whatever is told
+module _ (P : Told → Type 0) (h : Holds P) where
+  need-holds : (test : Bool) (r : Refusal) (rest : Told) → carriesPlace (number r) ≡ false → P rest → P (need test (number r) rest)
+  unfolding need
+  need-holds true r rest e s = s
+  need-holds false r rest e s = h .plain r e
+
+  hex-holds : (c : List ℕ) (rest : Told) → P rest → P (needHex c rest)
+  hex-holds c rest s =
+      by-cond P (allHex c) (λ _. s)
+      (λ _. by-cond (λ (n : ℕ). P (refusedAt n (badPlace c))) (isLower (getD c (badPlace c) 0)) (λ _. h .placed LowerCase refl (badPlace c)) (λ _. h .placed NoHexDigit refl (badPlace c)))
+
+  pub judge-holds : (c : List ℕ) → P (judge c)
+  unfolding judge
+  judge-holds c =
+      need-holds _ TooLong _ refl (need-holds _ TooShort _ refl (hex-holds c _
+      (need-holds _ LchksumDiffers _ refl (need-holds _ LenidOdd _ refl (need-holds _ CountDiffers _ refl (need-holds _ ChksumDiffers _ refl (h .whole (header c) (lenid c))))))))
+
+  kind-holds : (k : Kind) (r : Receiver) (store : List ℕ) (b : ℕ) → P (stepBy k r store b .told)
+  unfolding stepBy
+  kind-holds soi Waiting store b = h .quiet
+  kind-holds cr Waiting store b = h .quiet
+  kind-holds other Waiting store b = h .quiet
+  kind-holds soi (Open n) store b = h .plain SoiInside refl
+  kind-holds cr (Open n) store b = judge-holds (take n store)
+  kind-holds other (Open n) store b = by-cond (λ (a : After). P (a .told)) (ltb n 4110) (λ t. h .quiet) (λ t. h .plain TooLong refl)
+
+  pub step-holds : (r : Receiver) (store : List ℕ) (b : ℕ) → P (step r store b .told)
+  unfolding step
+  step-holds r store b =
+      by-cond (λ (a : After). P (a .told)) (ltb (length store) 4110) (λ t. h .plain BufferTooShort refl)
+      (λ t. by-cond (λ (a : After). P (a .told)) (beyond r) (λ u. h .plain ReceiverBeyondStore refl) (λ u. kind-holds (kind b) r store b))
+
+  stepping-holds : (piece : List ℕ) (r : Receiver) (store : List ℕ) → P (stepping r store piece .told)
+  unfolding stepping
+  stepping-holds [] r store = h .quiet
+  stepping-holds (b ∷ bs) r store =
+      let a = step r store b in
+      let next = stepping-holds bs (a .next) (a .store) in
+      by-cond (λ (x : Run). P (x .told)) (isNothing (a .told)) (λ t. next) (λ t. step-holds r store b)
+
+  pub run-holds : (r : Receiver) (store piece : List ℕ) → P (run r store piece .told)
+  unfolding run
+  run-holds r store piece =
+      by-cond (λ (a : Run). P (a .told)) (ltb (length store) 4110) (λ t. h .plain BufferTooShort refl)
+      (λ t. by-cond (λ (a : Run). P (a .told)) (beyond r) (λ u. h .plain ReceiverBeyondStore refl) (λ u. stepping-holds piece r store))
+
+-- an event says it
 abbrev Said : Told → Type 0
 Said t = (e : Event) × (paper e ≡ t)
 
-need-said : (test : Bool) (r : Refusal) (rest : Told) → Said rest → Said (need test (number r) rest)
-unfolding need
-need-said true r rest s = s
-need-said false r rest s = (Refused r, refl)
-
-judge-said : (c : List ℕ) → Said (judge c)
-unfolding judge
-judge-said c =
-    need-said _ TooLong _ (need-said _ TooShort _ (need-said _ NotHex _ (need-said _ LchksumDiffers _ (need-said _ LenidOdd _ (need-said _ CountDiffers _ (need-said _ ChksumDiffers _ (Frame (header c) (lenid c), refl)))))))
-
-kind-said : (k : Kind) (r : Receiver) (store : List ℕ) (b : ℕ) → Said (stepBy k r store b .told)
-unfolding stepBy
-kind-said soi Waiting store b = (Nothing, refl)
-kind-said cr Waiting store b = (Nothing, refl)
-kind-said other Waiting store b = (Nothing, refl)
-kind-said soi (Open n) store b = (Refused SoiInside, refl)
-kind-said cr (Open n) store b = judge-said (take n store)
-kind-said other (Open n) store b = by-cond (λ (a : After). Said (a .told)) (ltb n 4110) (λ t. (Nothing, refl)) (λ t. (Refused TooLong, refl))
-
-step-said : (r : Receiver) (store : List ℕ) (b : ℕ) → Said (step r store b .told)
-unfolding step
-step-said r store b =
-    by-cond (λ (a : After). Said (a .told)) (ltb (length store) 4110) (λ t. (Refused BufferTooShort, refl))
-    (λ t. by-cond (λ (a : After). Said (a .told)) (beyond r) (λ u. (Refused ReceiverBeyondStore, refl)) (λ u. kind-said (kind b) r store b))
-
-stepping-said : (piece : List ℕ) (r : Receiver) (store : List ℕ) → Said (stepping r store piece .told)
-unfolding stepping
-stepping-said [] r store = (Nothing, refl)
-stepping-said (b ∷ bs) r store =
-    let a = step r store b in
-    let next = stepping-said bs (a .next) (a .store) in
-    by-cond (λ (x : Run). Said (x .told)) (isNothing (a .told)) (λ t. next) (λ t. step-said r store b)
-
-run-said : (r : Receiver) (store piece : List ℕ) → Said (run r store piece .told)
-unfolding run
-run-said r store piece =
-    by-cond (λ (a : Run). Said (a .told)) (ltb (length store) 4110) (λ t. (Refused BufferTooShort, refl))
-    (λ t. by-cond (λ (a : Run). Said (a .told)) (beyond r) (λ u. (Refused ReceiverBeyondStore, refl)) (λ u. stepping-said piece r store))
+said : Holds Said
+said = record { quiet = (Nothing, refl); whole = λ h n. (Frame h n, refl); plain = λ r e. (Refused r, refl); placed = λ r e p. (RefusedAt r p, refl) }
 
 -- ---- a call for what is asked
 
 pub follows : (r : Receiver) (store stream : List ℕ) (a : Asked) → (c : Call) × (asked c ≡ a) × Keeps r store stream c
 follows r store stream (toRun most) =
     let a = run r store (take most stream) in
-    let s = run-said r store (take most stream) in (
+    let s = run-holds Said said r store (take most stream) in (
       ran most (record { next = a .next; event = s .0; taken = a .taken; held = a .held }) (a .store),
       refl,
       λ i. record { next = a .next; store = a .store; told = s .1 i; taken = a .taken; held = a .held },
     )
 follows r store stream toStep =
     let a = step r store (getD stream 0 0) in
-    let s = step-said r store (getD stream 0 0) in (
+    let s = step-holds Said said r store (getD stream 0 0) in (
       stepped (record { next = a .next; event = s .0 }) (a .store),
       refl,
       λ i. record { next = a .next; store = a .store; told = s .1 i },

@@ -1,15 +1,16 @@
 -- What damage does to a stretch that is a whole encoding: a character changed, lost, sent twice in a row, or exchanged with its neighbour; the tilde or the CR twice; the end cut off.
 use mathlib.Core.Path.{_≡_}
 use mathlib.Core.Logic.{_⊎_, _≢_}
-use mathlib.Core.Bool.{cond}
+use mathlib.Core.Bool.{true, false, cond}
 use mathlib.Core.List.{List, [], _∷_, _++_, List·Memᴰ as Among}
 use Prim.Native.Nat.{ℕ, suc, _+_, _-_, _≤_, _<_}
 use lib.ListN.{getD, take, drop, set}
 use lib.Seq.{slice}
 use lib.Dec.{leb, ltb, eqb}
+use Rattle.hex.specs.Hex.{isHex}
 use Rattle.frame.specs.declared.Header.{Header}
 use Rattle.frame.specs.Frame.{SOI, CR, infoAt}
-use Rattle.frame.specs.Judge.{Told, frame, refused, header}
+use Rattle.frame.specs.Judge.{Told, isRefusal, frame, refused, refusedAt, badNumber, header}
 use Rattle.receiver.specs.declared.Receiver.the-variants.{Waiting}
 use Rattle.receiver.specs.Run.{isNothing}
 use Rattle.receiver.specs.Stream.{Stretch}
@@ -58,7 +59,12 @@ pub record ToldOf (caller : Caller) (store : List ℕ) : Type 0 where
   pub changed-told : (stream : List ℕ) (i j : ℕ) (h : Header) (lenid : ℕ) → Stretch stream i j h lenid
       → (k b : ℕ) → i < k → k < j → b ≢ getD stream k 0
       → (cs : List (caller .Call)) → Calls caller Waiting store (set stream k b) cs → j < taken caller cs
-      → (p : ℕ) × (n : ℕ) × (es : List (ℕ × Told)) × (toldIn (suc i) j caller cs ≡ (p, refused n) ∷ es)
+      → (p : ℕ) × (t : Told) × (isRefusal t ≡ true) × (es : List (ℕ × Told)) × (toldIn (suc i) j caller cs ≡ (p, t) ∷ es)
+  -- where that byte isn't hex, and no tilde or CR: one refusal, at the CR, with the place of this character and the number that it calls for
+  pub bad-told : (stream : List ℕ) (i j : ℕ) (h : Header) (lenid : ℕ) → Stretch stream i j h lenid
+      → (k b : ℕ) → i < k → k < j → isHex b ≡ false → b ≢ SOI → b ≢ CR
+      → (cs : List (caller .Call)) → Calls caller Waiting store (set stream k b) cs → j < taken caller cs
+      → toldIn (suc i) j caller cs ≡ (j, refusedAt (badNumber b) (k - suc i)) ∷ []
   -- one character is lost: one refusal, at the CR; 3 where 15 are left
   pub lost-told : (stream : List ℕ) (i j : ℕ) (h : Header) (lenid : ℕ) → Stretch stream i j h lenid
       → (k : ℕ) → i < k → k < j

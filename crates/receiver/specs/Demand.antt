@@ -7,7 +7,7 @@ use lib.ListN.{length, getD, take, drop, set}
 use lib.Seq.{slice}
 use Rattle.frame.specs.declared.Header.{Header}
 use Rattle.frame.specs.Frame.{infoAt}
-use Rattle.frame.specs.Judge.{Told, nothing, frame, refused}
+use Rattle.frame.specs.Judge.{Told, nothing, frame, refused, refusedAt}
 use Rattle.receiver.specs.declared.Receiver.the-variants.{Waiting}
 use Rattle.receiver.specs.Stream.{Stretch}
 use Rattle.receiver.specs.Calls.{Asked, Can, Caller, Calls, Offered, taken, told}
@@ -23,6 +23,7 @@ abbrev pub out : ℕ → Told → List ℕ → List Out
 out n nothing store = []
 out n (frame h lenid) store = record { header = h; lenid = lenid; info = infoAt lenid store; cr = n - 1 } ∷ []
 out n (refused k) store = []
+out n (refusedAt k p) store = []
 
 abbrev pub handed : (caller : Caller) → List (caller .Call) → List Out
 handed caller cs = told caller out 0 cs

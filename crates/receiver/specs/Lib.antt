@@ -4,4 +4,5 @@ pub mod Stream
 pub mod Calls
 pub mod Demand
 pub mod Damage
+pub mod Place
 pub mod Pass

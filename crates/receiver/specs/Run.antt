@@ -5,7 +5,7 @@ use mathlib.Core.List.{List, [], _∷_}
 use Prim.Native.Nat.{ℕ, _+_}
 use lib.ListN.{length}
 use lib.Dec.{ltb}
-use Rattle.frame.specs.Judge.{Told, nothing, frame, refused}
+use Rattle.frame.specs.Judge.{Told, nothing, frame, refused, refusedAt}
 use Rattle.receiver.specs.declared.Receiver.{Receiver}
 use Rattle.receiver.specs.declared.Receiver.the-variants.{Waiting, Open}
 use Rattle.receiver.specs.declared.Ran.{Ran}
@@ -15,6 +15,7 @@ abbrev pub isNothing : Told → Bool
 isNothing nothing = true
 isNothing (frame h n) = false
 isNothing (refused k) = false
+isNothing (refusedAt k p) = false
 
 -- how many characters a receiver holds
 abbrev pub countOf : Receiver → ℕ

@@ -7,11 +7,11 @@ use lib.ListN.{length, take, set}
 use lib.Dec.{ltb, eqb}
 use Rattle.refusal.specs.Number.{number}
 use Rattle.frame.specs.Frame.{SOI, CR}
-use Rattle.frame.specs.Judge.{Told, nothing, frame, refused, judge}
+use Rattle.frame.specs.Judge.{Told, nothing, frame, refused, refusedAt, judge}
 use Rattle.receiver.specs.declared.Receiver.{Receiver}
 use Rattle.receiver.specs.declared.Receiver.the-variants.{Waiting, Open}
 use Rattle.receiver.specs.declared.Event.{Event}
-use Rattle.receiver.specs.declared.Event.the-variants.{Nothing, Frame, Refused}
+use Rattle.receiver.specs.declared.Event.the-variants.{Nothing, Frame, Refused, RefusedAt}
 use Rattle.receiver.specs.declared.Stepped.{Stepped}
 
 -- what a byte is to the receiver
@@ -58,6 +58,7 @@ abbrev pub paper : Event → Told
 paper Nothing = nothing
 paper (Frame h n) = frame h n
 paper (Refused r) = refused (number r)
+paper (RefusedAt r p) = refusedAt (number r) p
 
 -- the contract of a step: its answer and the store then
 abbrev pub Steps : Receiver → List ℕ → ℕ → Stepped → List ℕ → Type 0

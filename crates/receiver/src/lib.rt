@@ -23,11 +23,13 @@ pub enum Receiver {
     Open(usize),
 }
 
-// What a byte gives: nothing, a frame with its four bytes and LENID, or a refusal.
+// What a byte gives: nothing, a frame with its four bytes and LENID, or a refusal, with the place of the first character that isn't hex
+// where that is why.
 pub enum Event {
     Nothing,
     Frame(Header, usize),
     Refused(Refusal),
+    RefusedAt(Refusal, u32),
 }
 
 pub struct Stepped {
@@ -181,6 +183,10 @@ fn closed(judged: Judged) -> Stepped
             next: Receiver::Waiting,
             event: Event::Refused(refusal),
         },
+        Judged::RefusedAt(refusal, place) => Stepped {
+            next: Receiver::Waiting,
+            event: Event::RefusedAt(refusal, place),
+        },
     }
 }
 
@@ -191,6 +197,7 @@ fn is_nothing(event: Event) -> bool
         Event::Nothing => true,
         Event::Frame(_, _) => false,
         Event::Refused(_) => false,
+        Event::RefusedAt(_, _) => false,
     }
 }
 

@@ -4,7 +4,7 @@ use Prim.Native.Nat.{ℕ}
 use mathlib.Core.Bool.{cond}
 use lib.Dec.{eqb}
 use Rattle.refusal.specs.declared.Refusal.{Refusal}
-use Rattle.refusal.specs.declared.Refusal.the-variants.{TooLong, SoiInside, TooShort, NotHex, LchksumDiffers, LenidOdd, CountDiffers, ChksumDiffers, AdrDiffers, Cid1Differs, CodeUnknown, InfoBesideCode, CountOutOfRange, InfoEnds, BytesLeftOver, ItemsUnknown, CapacitiesBreakRule, AlarmCodeUnknown, CommandDiffers, RecordsDiffer, AdrNotInTable, TableBreaksRule, BufferTooShort, NotEncodable, NotServed, ReceiverBeyondStore}
+use Rattle.refusal.specs.declared.Refusal.the-variants.{TooLong, SoiInside, TooShort, LowerCase, LchksumDiffers, LenidOdd, CountDiffers, ChksumDiffers, NoHexDigit, AdrDiffers, Cid1Differs, CodeUnknown, InfoBesideCode, CountOutOfRange, InfoEnds, BytesLeftOver, ItemsUnknown, CapacitiesBreakRule, AlarmCodeUnknown, CommandDiffers, RecordsDiffer, AdrNotInTable, TableBreaksRule, BufferTooShort, NotEncodable, NotServed, ReceiverBeyondStore}
 use Rattle.refusal.specs.Number.{number}
 
 named : ℕ → Refusal
@@ -12,11 +12,12 @@ named n =
     cond (eqb n 1) TooLong
     (cond (eqb n 2) SoiInside
     (cond (eqb n 3) TooShort
-    (cond (eqb n 4) NotHex
+    (cond (eqb n 4) LowerCase
     (cond (eqb n 5) LchksumDiffers
     (cond (eqb n 6) LenidOdd
     (cond (eqb n 7) CountDiffers
     (cond (eqb n 8) ChksumDiffers
+    (cond (eqb n 9) NoHexDigit
     (cond (eqb n 11) AdrDiffers
     (cond (eqb n 12) Cid1Differs
     (cond (eqb n 13) CodeUnknown
@@ -34,18 +35,19 @@ named n =
     (cond (eqb n 32) BufferTooShort
     (cond (eqb n 33) NotEncodable
     (cond (eqb n 34) NotServed
-    ReceiverBeyondStore))))))))))))))))))))))))
+    ReceiverBeyondStore)))))))))))))))))))))))))
 
 named-number : (r : Refusal) → named (number r) ≡ r
 unfolding named
 named-number TooLong = refl
 named-number SoiInside = refl
 named-number TooShort = refl
-named-number NotHex = refl
+named-number LowerCase = refl
 named-number LchksumDiffers = refl
 named-number LenidOdd = refl
 named-number CountDiffers = refl
 named-number ChksumDiffers = refl
+named-number NoHexDigit = refl
 named-number AdrDiffers = refl
 named-number Cid1Differs = refl
 named-number CodeUnknown = refl

@@ -1,7 +1,7 @@
 -- The paper's number of each refusal, in the order of its table.
 use Prim.Native.Nat.{ℕ}
 use Rattle.refusal.specs.declared.Refusal.{Refusal}
-use Rattle.refusal.specs.declared.Refusal.the-variants.{TooLong, SoiInside, TooShort, NotHex, LchksumDiffers, LenidOdd, CountDiffers, ChksumDiffers, AdrDiffers, Cid1Differs, CodeUnknown, InfoBesideCode, CountOutOfRange, InfoEnds, BytesLeftOver, ItemsUnknown, CapacitiesBreakRule, AlarmCodeUnknown, CommandDiffers, RecordsDiffer, AdrNotInTable, TableBreaksRule, BufferTooShort, NotEncodable, NotServed, ReceiverBeyondStore}
+use Rattle.refusal.specs.declared.Refusal.the-variants.{TooLong, SoiInside, TooShort, LowerCase, LchksumDiffers, LenidOdd, CountDiffers, ChksumDiffers, NoHexDigit, AdrDiffers, Cid1Differs, CodeUnknown, InfoBesideCode, CountOutOfRange, InfoEnds, BytesLeftOver, ItemsUnknown, CapacitiesBreakRule, AlarmCodeUnknown, CommandDiffers, RecordsDiffer, AdrNotInTable, TableBreaksRule, BufferTooShort, NotEncodable, NotServed, ReceiverBeyondStore}
 
 abbrev pub number : Refusal → ℕ
 -- a 4,111th character arrives
@@ -10,8 +10,8 @@ number TooLong = 1
 number SoiInside = 2
 -- fewer than 16 characters
 number TooShort = 3
--- a character that isn't hex
-number NotHex = 4
+-- a character that isn't hex, and the first such is `a` to `f`
+number LowerCase = 4
 -- LCHKSUM differs
 number LchksumDiffers = 5
 -- LENID odd
@@ -20,6 +20,8 @@ number LenidOdd = 6
 number CountDiffers = 7
 -- CHKSUM differs
 number ChksumDiffers = 8
+-- a character that isn't hex, and the first such is anything else
+number NoHexDigit = 9
 -- reply's ADR is not the one asked
 number AdrDiffers = 11
 -- reply's CID1 is not 46H

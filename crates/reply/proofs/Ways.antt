@@ -2,23 +2,23 @@
 use mathlib.Core.Path.{_≡_, refl, sym, ap, _∙_}
 use mathlib.Core.Bool.{Bool, true, false, cond, not}
 use mathlib.Core.List.{List}
-use Prim.Native.Nat.{ℕ, _+_, _-_, _≤_, _<_}
+use Prim.Native.Nat.{ℕ, _+_, _≤_}
 use native.Mathlib.Omega.{arith}
 use lib.ListN.{length}
-use lib.Dec.{ltb}
 use borrow.Author.Tests.{ne-eqb, le-ltb}
-use Rattle.buffer.proofs.Lists.{by-cond, never}
+use Rattle.buffer.proofs.Lists.{never}
 use Rattle.hex.specs.Hex.{unhexes}
 use Rattle.frame.specs.Frame.{infoAt, Frames}
-use Rattle.frame.specs.Judge.{Told, isRefusal, nothing, frame, refused as judgedRefused, header, lenid, judge}
+use Rattle.frame.specs.Judge.{Told, isRefusal, nothing, frame, refused as judgedRefused, refusedAt as judgedRefusedAt, header, lenid}
 use Rattle.frame.proofs.Judging.{accepted, judge-accepts, chars-read}
 use Rattle.record.specs.declared.Module.{Module}
 use Rattle.record.specs.Nothing.{noMaker}
 use Rattle.table.specs.Table.{hasMember}
 use Rattle.command.specs.Heard.{Words, words}
+use Rattle.command.proofs.Ones.{told-is}
 use Rattle.reply.specs.declared.gate.Question.{Question}
-use Rattle.reply.specs.Gate.{Gated, passed, refused as gateRefused, gate, judgedFirst, asks, frameGate}
-use Rattle.reply.specs.Read.{Result, read, refused, Left, leaves, byCode, unless, readReply}
+use Rattle.reply.specs.Gate.{Gated, passed, refused as gateRefused, refusedAt as gateRefusedAt, gate, judgedFirst, asks, frameGate}
+use Rattle.reply.specs.Read.{Result, read, refused, refusedAt, Left, leaves, byCode, unless, readReply}
 
 module _ (keeps : Bool) (ms : List Module) (q : Question) (stretch : List ℕ) where
   pub way-broken : keeps ≡ false → leaves (refused 31) noMaker ms ≡ readReply keeps ms q stretch
@@ -35,6 +35,7 @@ module _ (keeps : Bool) (ms : List Module) (q : Question) (stretch : List ℕ) w
 pub by-gate : (P : Left → Type 0) (g : Gated) (ms : List Module) (rest : Left) → P rest → ((why : Result) → P (leaves why noMaker ms)) → P (unless g ms rest)
 by-gate P passed ms rest on shut = on
 by-gate P (gateRefused k) ms rest on shut = shut (refused k)
+by-gate P (gateRefusedAt k p) ms rest on shut = shut (refusedAt k p)
 
 -- ---- another code, and 00H
 
@@ -55,10 +56,7 @@ judged ms q w = go (not (asks q)) (not (hasMember (q .adr) ms)) (w .told)
     go false false nothing e = refl
     go false false (frame h n) e = refl
     go false false (judgedRefused k) e = never (cc)
-
-told-is : (c : List ℕ) → words c .told ≡ judge c
-unfolding words
-told-is c = by-cond (λ (w : Words). w .told ≡ judge c) (ltb (length c) 16) (λ t. refl) (λ t. refl)
+    go false false (judgedRefusedAt k p) e = never (cc)
 
 lenid-is : (c : List ℕ) → 16 ≤ length c → words c .lenid ≡ lenid c
 unfolding words

@@ -1,17 +1,17 @@
--- Before a reply's INFO is read: 34, 23, then 1 and 3 to 8, then 11, 12, 13, 14.
+-- Before a reply's INFO is read: 34, 23, then 1 and 3 to 9, then 11, 12, 13, 14.
 use mathlib.Core.Bool.{Bool, cond, not, _&&_, _||_}
 use mathlib.Core.List.{List}
 use Prim.Native.Nat.{ℕ}
 use lib.Dec.{leb, eqb}
 use Rattle.refusal.specs.Number.{number}
 use Rattle.record.specs.declared.Module.{Module}
-use Rattle.frame.specs.Judge.{Told, nothing, frame, refused as judgedRefused}
+use Rattle.frame.specs.Judge.{Told, nothing, frame, refused as judgedRefused, refusedAt as judgedRefusedAt}
 use Rattle.table.specs.Table.{isMaster, hasMember}
 use Rattle.command.specs.Command.{kindOf, termsOf}
 use Rattle.command.specs.Heard.{Words}
 use Rattle.reply.specs.declared.gate.Question.{Question}
 use Rattle.reply.specs.declared.gate.Entry.{Entry}
-use Rattle.reply.specs.declared.gate.Entry.the-variants.{Open, Refused}
+use Rattle.reply.specs.declared.gate.Entry.the-variants.{Open, Refused, RefusedAt}
 
 -- return codes are 00H to 06H, 90H and 91H
 unfoldable pub isReturnCode : ℕ → Bool
@@ -23,14 +23,16 @@ asks q =
     let t = termsOf (kindOf (q .cid2)) in
     t .served && (not (t .«has_command») || (eqb (q .command) (q .adr) || (eqb (q .command) 0xFF && (t .«has_group» && isMaster (q .adr)))))
 
--- the stretch passes, or it is refused with a number
+-- the stretch passes, or it is refused with a number, or with a number and a place
 pub data Gated : Type 0 where
   passed : Gated
   refused : ℕ → Gated
+  refusedAt : ℕ → ℕ → Gated
 
 abbrev pub paper : Entry → Gated
 paper Open = passed
 paper (Refused r) = refused (number r)
+paper (RefusedAt r p) = refusedAt (number r) p
 
 -- a line of the column: where the test holds, that number, else what follows
 infixr 5 _refuses_else_
@@ -51,6 +53,7 @@ abbrev pub judgedFirst : Told → Gated → Gated
 judgedFirst nothing rest = rest
 judgedFirst (frame h n) rest = rest
 judgedFirst (judgedRefused k) rest = refused k
+judgedFirst (judgedRefusedAt k p) rest = refusedAt k p
 
 unfoldable pub gate : List Module → Question → Words → Gated
 gate ms q w =

@@ -22,9 +22,9 @@ use Rattle.command.specs.Command.{formOf}
 use Rattle.command.specs.Heard.{Words, words}
 use Rattle.reply.specs.declared.gate.Question.{Question}
 use Rattle.reply.specs.declared.Outcome.{Outcome}
-use Rattle.reply.specs.declared.Outcome.the-variants.{Read, Refused}
+use Rattle.reply.specs.declared.Outcome.the-variants.{Read, Refused, RefusedAt}
 use Rattle.reply.specs.declared.Reading.{Reading}
-use Rattle.reply.specs.Gate.{Gated, passed, refused as gateRefused, gate}
+use Rattle.reply.specs.Gate.{Gated, passed, refused as gateRefused, refusedAt as gateRefusedAt, gate}
 
 -- the flag, the 32 bytes of 51H (zeros for every other command), and the records then
 abbrev pub Data : Type 0
@@ -52,14 +52,16 @@ took TurnOff ms adr info = tookNothing ms info
 took Version ms adr info = mapped (versionInfo adr .get info) (λ x. (0, (noMaker, replaced adr (withVersion (x .1)) ms)))
 took Unserved ms adr info = refuse 34
 
--- VER, code and flag, or a refusal with its number
+-- VER, code and flag, or a refusal with its number, or with its number and a place
 pub data Result : Type 0 where
   read : ℕ → ℕ → ℕ → Result
   refused : ℕ → Result
+  refusedAt : ℕ → ℕ → Result
 
 abbrev pub paper : Outcome → Result
 paper (Read ver code flag) = read ver code flag
 paper (Refused r) = refused (number r)
+paper (RefusedAt r p) = refusedAt (number r) p
 
 -- that, the 32 bytes of 51H, and the records then
 pub record Left : Type 0 where
@@ -85,6 +87,7 @@ byCode ms q w info =
 abbrev pub unless : Gated → List Module → Left → Left
 unless passed ms rest = rest
 unless (gateRefused k) ms rest = leaves (refused k) noMaker ms
+unless (gateRefusedAt k p) ms rest = leaves (refusedAt k p) noMaker ms
 
 -- 31 first
 unfoldable pub readReply : Bool → List Module → Question → List ℕ → Left

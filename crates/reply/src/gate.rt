@@ -17,10 +17,11 @@ pub struct Question {
     pub command: u8,
 }
 
-// Whether INFO is to be read.
+// Whether INFO is to be read, or the refusal, with the place of the first character that isn't hex where that is why.
 pub enum Entry {
     Open,
     Refused(Refusal),
+    RefusedAt(Refusal, u32),
 }
 
 // Whether a byte is a return code of the paper.
@@ -85,6 +86,7 @@ pub fn gate(table: Table, question: Question, heard: Heard) -> Entry
     let judged = heard.judged;
     match judged {
         Judged::Refused(refusal) => Entry::Refused(refusal),
+        Judged::RefusedAt(refusal, place) => Entry::RefusedAt(refusal, place),
         Judged::Frame(_, _) => gate_frame(question, heard),
     }
 }

@@ -19,10 +19,11 @@ use parts::front::Taken;
 use refusal::Refusal;
 use table::Table;
 
-// How a reading went: VER, code and flag, or the refusal.
+// How a reading went: VER, code and flag, or the refusal, with the place of the first character that isn't hex where that is why.
 pub enum Outcome {
     Read(u8, u8, u8),
     Refused(Refusal),
+    RefusedAt(Refusal, u32),
 }
 
 // That, the 32 bytes of 51H (zeros for every other command), and the table then.
@@ -38,6 +39,17 @@ fn not_read(table: Table, why: Refusal) -> Reading
     let maker = [0u8; 32];
     Reading {
         outcome: Outcome::Refused(why),
+        maker,
+        table,
+    }
+}
+
+fn not_read_at(table: Table, why: Refusal, place: u32) -> Reading
+    ensures { λ r. ⌜ r ≡ record { outcome = Outcome.RefusedAt why place; maker = noMaker; table = table } ⌝ }
+{
+    let maker = [0u8; 32];
+    Reading {
+        outcome: Outcome::RefusedAt(why, place),
         maker,
         table,
     }
@@ -230,7 +242,7 @@ fn read_open(table: Table, question: Question, heard: Heard, stretch: &[u8]) -> 
     read_data(table, kind, question.adr, header.ver, &stretch[12..end])
 }
 
-// Reads a reply, the bytes between SOI and CR, to a question: 31, 34, 23, 1 and 3 to 8, 11 to 14, then its INFO.
+// Reads a reply, the bytes between SOI and CR, to a question: 31, 34, 23, 1 and 3 to 9, 11 to 14, then its INFO.
 pub fn read(table: Table, question: Question, stretch: &[u8]) -> Reading
     ensures { λ r. ⌜ Reads (readReply (keeps table) (members table) question (now (stretch .entry))) table r ⌝ }
 {
@@ -241,6 +253,7 @@ pub fn read(table: Table, question: Question, stretch: &[u8]) -> Reading
     let entry = crate::gate::gate(table, question, heard);
     match entry {
         Entry::Refused(why) => not_read(table, why),
+        Entry::RefusedAt(why, place) => not_read_at(table, why, place),
         Entry::Open => read_open(table, question, heard, stretch),
     }
 }

@@ -1,4 +1,5 @@
 pub mod Members
 pub mod Filled
 pub mod Replies
+pub mod Silent
 pub mod Maker

@@ -1,12 +1,12 @@
 -- From what the frame writer leaves to the stand-in's reply, and what a code tells of the member asked.
 use mathlib.Core.Path.{_≡_, refl, sym, ap, _∙_}
-use mathlib.Core.Bool.{Bool, true, false, cond, not, _||_}
+use mathlib.Core.Bool.{Bool, true, false, cond, not}
 use mathlib.Core.List.{List, [], _++_}
 use Prim.Native.Nat.{ℕ, _+_, _≤_, _<_}
 use native.Mathlib.Omega.{arith}
 use lib.ListN.{length, take, drop}
 use lib.Seq.{take-at}
-use lib.Dec.{eqb, leb}
+use lib.Dec.{leb}
 use borrow.Author.Tests.{le-leb, lt-ltb, le-ltb, eq-eqb, ne-eqb, not-false}
 use Rattle.buffer.specs.declared.Written.{Written}
 use Rattle.buffer.specs.Put.{Put}
@@ -23,7 +23,7 @@ use Rattle.record.specs.declared.Module.{Module}
 use Rattle.table.specs.declared.Station.{Station}
 use Rattle.table.specs.Table.{isOn, memberAt}
 use Rattle.command.specs.Heard.{Words, numberOf, words}
-use Rattle.standin.specs.Says.{Speech, Silent, Code, decide}
+use Rattle.standin.specs.Says.{Speech, Silent, Code, decide, unheard}
 use Rattle.standin.specs.Answer as Answer
 use Rattle.standin.specs.Answer.{infoBy, kindAsked, infoFor, replyHeader, offFor, reply, silence, leaves, written, says, answer}
 use Rattle.standin.proofs.Filled.{filled}
@@ -73,7 +73,7 @@ pub said-on : (st : Station) (ms : List Module) (w : Words) (k : ℕ) → decide
 unfolding decide
 said-on st ms w k e =
     let number = numberOf (w .told) in
-    let a = hush ((eqb number 1 || eqb number 3) || eqb number 4) _ k e in
+    let a = hush (unheard number) _ k e in
     let b = hush (not (isOn (memberAt (w .header .adr) ms))) _ k (a .1) in
     not-false (isOn (memberAt (w .header .adr) ms)) (b .0)
 

@@ -29,6 +29,10 @@ infixr 5 _silent-else_
 abbrev pub _silent-else_ : Bool → Speech → Speech
 test silent-else rest = cond test Silent rest
 
+-- a stretch that is too long, too short or not all hex is not heard at all
+abbrev pub unheard : ℕ → Bool
+unheard number = (eqb number 1 || eqb number 3) || (eqb number 4 || eqb number 9)
+
 -- The first two lines are the silences. Then the eleven steps; commands without a Command byte are answered before step 8.
 unfoldable pub decide : Station → List Module → Words → Speech
 decide st ms h =
@@ -37,7 +41,7 @@ decide st ms h =
     let m = memberAt adr ms in
     let t = termsOf (kindOf (h .header .cid2)) in
     let group = eqb (h .command) 0xFF in
-    ((eqb number 1 || eqb number 3) || eqb number 4) silent-else
+    (unheard number) silent-else
     (not (isOn m)) silent-else
     (eqb number 5) says 0x03 else
     (eqb number 6 || eqb number 7) says 0x05 else

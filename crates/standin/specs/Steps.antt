@@ -4,12 +4,12 @@ use Prim.Native.Nat.{ℕ}
 use lib.Dec.{eqb}
 use Rattle.frame.specs.declared.Header.{Header}
 use Rattle.command.specs.declared.Terms.{Terms}
-use Rattle.standin.specs.Says.{Speech, Code, _says_else_, _silent-else_}
+use Rattle.standin.specs.Says.{Speech, Code, _says_else_, _silent-else_, unheard}
 
 -- the silences, and steps 1 to 3
 abbrev pub byNumber : ℕ → Bool → Speech → Speech
 byNumber number on rest =
-    ((eqb number 1 || eqb number 3) || eqb number 4) silent-else
+    (unheard number) silent-else
     (not on) silent-else
     (eqb number 5) says 0x03 else
     (eqb number 6 || eqb number 7) says 0x05 else

@@ -9,8 +9,8 @@ use lib.ListN.{length, take, drop, set, length-append}
 use lib.Seq.{take-set-le, append-snoc}
 use Rattle.buffer.specs.Put.{puts, Room, Put}
 use Rattle.buffer.proofs.Puts.{put-then, room-first, room-rest}
-use Rattle.texts.specs.Text.{AT, VER, ADR, CID1, CID2, INFO, REFUSED, FRAMES, REFUSALS, LF, digit, decimal, digits, line}
-use Rattle.texts.specs.Block.{Block, linesOf, lines, sixLines, refusalLines, totals}
+use Rattle.texts.specs.Text.{AT, VER, ADR, CID1, CID2, INFO, REFUSED, PLACE, FRAMES, REFUSALS, LF, digit, decimal, digits, line}
+use Rattle.texts.specs.Block.{Block, linesOf, lines, sixLines, refusalLines, placedLines, totals}
 use Rattle.texts.proofs.Decimals.{digits-length, decimal-short}
 
 -- ---- digits, the last one first
@@ -169,7 +169,7 @@ six-short at ver adr cid1 cid2 info small v w x y few =
       decimal-short at small,
     )
 
-pub refusal-short : (at number : ℕ) → at < 4294967296 → number < 4294967296 → length (refusalLines at number) ≤ 4200
+pub refusal-short : (at number : ℕ) → at < 4294967296 → number < 4294967296 → length (refusalLines at number) ≤ 33
 unfolding refusalLines
 refusal-short at number small few =
     omega (
@@ -179,6 +179,17 @@ refusal-short at number small few =
       length-line REFUSED (decimal number),
       decimal-short at small,
       decimal-short number few,
+    )
+
+pub placed-short : (at number place : ℕ) → at < 4294967296 → number < 4294967296 → place < 4294967296 → length (placedLines at number place) ≤ 50
+unfolding placedLines
+placed-short at number place small few near =
+    omega (
+      arith,
+      length-append (refusalLines at number) (line PLACE (decimal place)),
+      refusal-short at number small few,
+      length-line PLACE (decimal place),
+      decimal-short place near,
     )
 
 pub totals-short : (f g : ℕ) → f < 4294967296 → g < 4294967296 → length (totals f g) ≤ 38

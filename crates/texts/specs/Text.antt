@@ -29,6 +29,9 @@ INFO = ascii "info="
 abbrev pub REFUSED : List ℕ
 REFUSED = ascii "refused="
 
+abbrev pub PLACE : List ℕ
+PLACE = ascii "place="
+
 abbrev pub FRAMES : List ℕ
 FRAMES = ascii "frames="
 

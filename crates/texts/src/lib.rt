@@ -1,10 +1,10 @@
-// The listing's texts in a lent buffer: numbers in decimal, lines, a frame's six lines, a refusal's two, the two totals.
+// The listing's texts in a lent buffer: numbers in decimal, lines, a frame's six lines, a refusal's two or three, the two totals.
 
 ghost use mathlib.Core.Path.{_≡_};
 ghost use lib.ListN.{length};
 ghost use Rattle.buffer.specs.Put.{Room, Put};
 ghost use Rattle.texts.specs.Text.{decimal, digits, line};
-ghost use Rattle.texts.specs.Block.{sixLines, refusalLines, totals};
+ghost use Rattle.texts.specs.Block.{sixLines, refusalLines, placedLines, totals};
 
 // The keys of the lines.
 pub const AT: [u8; 3] = *b"at=";
@@ -20,6 +20,8 @@ pub const CID2: [u8; 5] = *b"cid2=";
 pub const INFO: [u8; 5] = *b"info=";
 
 pub const REFUSED: [u8; 8] = *b"refused=";
+
+pub const PLACE: [u8; 6] = *b"place=";
 
 pub const FRAMES: [u8; 7] = *b"frames=";
 
@@ -138,6 +140,15 @@ pub fn put_refusal(out: &mut [u8], at: usize, soi: u32, number: u8) -> usize
 {
     let last = put_number_line(out, at, &AT, soi);
     put_number_line(out, last, &REFUSED, number as u32)
+}
+
+// Puts the three lines of a refusal with a place.
+pub fn put_placed(out: &mut [u8], at: usize, soi: u32, number: u8, place: u32) -> usize
+    requires { ⌜ Room (now out) at (placedLines soi number place) ⌝ }
+    ensures { λ r. ⌜ Put (now (out .entry)) at (placedLines soi number place) (now (out .exit)) r ⌝ }
+{
+    let last = put_refusal(out, at, soi, number);
+    put_number_line(out, last, &PLACE, place)
 }
 
 // Puts the two totals.

@@ -24,6 +24,10 @@ static hanuzak_event refused(uint32_t number) {
     return (hanuzak_event){.kind = REFUSED, .number = number};
 }
 
+static hanuzak_event bad_character(uint8_t c, size_t place) {
+    return (hanuzak_event){.kind = REFUSED, .number = c >= 'a' && c <= 'f' ? 4 : 9, .place = place};
+}
+
 hanuzak_event plain_judge(const uint8_t *s, size_t n) {
     if (n > MOST_CHARACTERS)
         return refused(1);
@@ -31,7 +35,7 @@ hanuzak_event plain_judge(const uint8_t *s, size_t n) {
         return refused(3);
     for (size_t i = 0; i < n; i++)
         if (digit(s[i]) < 0)
-            return refused(4);
+            return bad_character(s[i], i);
     unsigned length = word_at(s + 8), lenid = length & 0xFFF;
     unsigned digits = (lenid >> 8) + (lenid >> 4 & 15) + (lenid & 15);
     if (length >> 12 != (16 - digits % 16) % 16)

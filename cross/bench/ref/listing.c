@@ -20,13 +20,15 @@ static unsigned word_at(const unsigned char *s) {
     return byte_at(s) * 256 + byte_at(s + 2);
 }
 
-/* 0 for a frame, otherwise the refusal's number. */
-static int judge(const unsigned char *s, unsigned count) {
+/* 0 for a frame, otherwise the refusal's number; with 4 and 9 also the place of the first bad character. */
+static int judge(const unsigned char *s, unsigned count, unsigned *place) {
     if (count < 16)
         return 3;
     for (unsigned i = 0; i < count; i++)
-        if (digit(s[i]) < 0)
-            return 4;
+        if (digit(s[i]) < 0) {
+            *place = i;
+            return s[i] >= 'a' && s[i] <= 'f' ? 4 : 9;
+        }
     unsigned length = word_at(s + 8), lenid = length & 0xFFF;
     unsigned digits = (lenid >> 8) + (lenid >> 4 & 15) + (lenid & 15);
     if (length >> 12 != (16 - digits % 16) % 16)
@@ -53,9 +55,12 @@ static void refuse(unsigned long long at, int number) {
 }
 
 static void list(unsigned long long at, const unsigned char *s, unsigned count) {
-    int number = judge(s, count);
+    unsigned place;
+    int number = judge(s, count, &place);
     if (number) {
         refuse(at, number);
+        if (number == 4 || number == 9)
+            printf("place=%u\n", place);
         return;
     }
     printf("at=%llu\nver=%02X\nadr=%02X\ncid1=%02X\ncid2=%02X\ninfo=", at, byte_at(s), byte_at(s + 2),

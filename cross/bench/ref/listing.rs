@@ -16,6 +16,7 @@ enum Event {
     Nothing,
     Frame(Header, usize),
     Refused(u8),
+    BadCharacter { number: u8, place: usize },
 }
 
 enum State {
@@ -48,8 +49,12 @@ fn judge(s: &[u8]) -> Event {
     if s.len() < 16 {
         return Event::Refused(3);
     }
-    if s.iter().any(|&c| digit(c).is_none()) {
-        return Event::Refused(4);
+    if let Some(place) = s.iter().position(|&c| digit(c).is_none()) {
+        let number = match s[place] {
+            b'a'..=b'f' => 4,
+            _ => 9,
+        };
+        return Event::BadCharacter { number, place };
     }
     let length = word(&s[8..12]);
     let lenid = length & 0xFFF;
@@ -137,6 +142,10 @@ fn main() -> io::Result<()> {
                 }
                 Event::Refused(number) => {
                     write!(out, "at={at}\nrefused={number}\n")?;
+                    refusals += 1;
+                }
+                Event::BadCharacter { number, place } => {
+                    write!(out, "at={at}\nrefused={number}\nplace={place}\n")?;
                     refusals += 1;
                 }
             }

@@ -2,27 +2,27 @@
 import sys
 
 SOI, CR, MOST_CHARACTERS = 0x7E, 0x0D, 4110
-HEX = frozenset(b'0123456789ABCDEF')
+HEX, LOWER = frozenset(b'0123456789ABCDEF'), frozenset(b'abcdef')
 
 
 def judge(s):
-    """0 for a frame, otherwise the refusal's number."""
+    """0 for a frame, otherwise the refusal's number; with 4 and 9 also the line of the place."""
     if len(s) < 16:
-        return 3
-    for c in s:
+        return 3, ''
+    for place, c in enumerate(s):
         if c not in HEX:
-            return 4
+            return 4 if c in LOWER else 9, 'place=%d\n' % place
     length = int(s[8:12], 16)
     lenid = length & 0xFFF
     if length >> 12 != -((lenid >> 8) + (lenid >> 4 & 15) + (lenid & 15)) % 16:
-        return 5
+        return 5, ''
     if lenid % 2:
-        return 6
+        return 6, ''
     if len(s) != 16 + lenid:
-        return 7
+        return 7, ''
     if int(s[-4:], 16) != -sum(s[:-4]) % 65536:
-        return 8
-    return 0
+        return 8, ''
+    return 0, ''
 
 
 def main():
@@ -35,7 +35,7 @@ def main():
             break
         left -= len(piece)
         for b in piece:
-            number = 0
+            number, place = 0, ''
             if b == SOI:
                 if opened:
                     number = 2
@@ -43,7 +43,7 @@ def main():
                 pass
             elif b == CR:
                 opened = False
-                number = judge(s)
+                number, place = judge(s)
                 if number == 0:
                     t = s.decode('ascii')
                     out.write('at=%d\nver=%s\nadr=%s\ncid1=%s\ncid2=%s\ninfo=%s\n'
@@ -55,7 +55,7 @@ def main():
             else:
                 s.append(b)
             if number:
-                out.write('at=%d\nrefused=%d\n' % (at, number))
+                out.write('at=%d\nrefused=%d\n%s' % (at, number, place))
                 refusals += 1
             if b == SOI:
                 opened, s, at = True, bytearray(), offset

@@ -4,6 +4,7 @@
 #include <unistd.h>
 
 enum { SOI = 0x7E, CR = 0x0D, MOST_CHARACTERS = 4110, PIECE = 65536, ROOM = 131072, LONGEST_BLOCK = 4300 };
+enum { BAD = -1 };
 
 static unsigned digit(unsigned char c) {
     return c <= '9' ? c - '0' : c - 'A' + 10;
@@ -17,7 +18,7 @@ static int not_hex(unsigned char c) {
     return ((unsigned char)(c - '0') > 9) & ((unsigned char)(c - 'A') > 5);
 }
 
-/* 0 for a frame, otherwise the refusal's number. */
+/* 0 for a frame, otherwise the refusal's number; BAD stands for 4 and 9. */
 static int judge(const unsigned char *s, unsigned count) {
     if (count < 16)
         return 3;
@@ -29,7 +30,7 @@ static int judge(const unsigned char *s, unsigned count) {
         sum += s[i];
     }
     if (bad)
-        return 4;
+        return BAD;
     unsigned length = word_at(s + 8), lenid = length & 0xFFF;
     if (((length >> 12) + (lenid >> 8) + (lenid >> 4) + lenid) % 16)
         return 5;
@@ -77,8 +78,23 @@ static void refuse(uint64_t at, int number) {
     refusals++;
 }
 
+/* There is a bad character: the first of them decides. */
+static void refuse_bad(uint64_t at, const unsigned char *s) {
+    unsigned place = 0;
+    while (!not_hex(s[place]))
+        place++;
+    refuse(at, s[place] >= 'a' && s[place] <= 'f' ? 4 : 9);
+    text("place=", 6);
+    decimal(place);
+    *end_of_out++ = '\n';
+}
+
 static void list(uint64_t at, const unsigned char *s, unsigned count) {
     int number = judge(s, count);
+    if (number == BAD) {
+        refuse_bad(at, s);
+        return;
+    }
     if (number) {
         refuse(at, number);
         return;

@@ -4,6 +4,12 @@ use reference::frame::{self, judge, write_frame, Header};
 use reference::hex;
 use reference::seeded::Seeded;
 
+/// The digits, and [`BAD`].
+pub const CHARACTERS: [u8; 32] = *b"0123456789ABCDEFabcdef~\r/:@G`g\0\xFF";
+/// Characters that are not hex: in lower case, SOI and CR, next to digits and letters, the least and
+/// the greatest.
+pub const BAD: [u8; 16] = *b"abcdef~\r/:@G`g\0\xFF";
+
 /// The stretch of a frame: the bytes between SOI and CR. INFO above 2,047 bytes gives none.
 pub fn stretch(header: [u8; 4], info: &[u8]) -> Vec<u8> {
     let [ver, adr, cid1, cid2] = header;

@@ -7,12 +7,18 @@ use linked::{
     Answered, Event, Listed, Listing, Module, Ran, Receiver, Reply, Stepped, Written, CLOSING,
     LISTING, STORE,
 };
-use reference::{Header, Lister, Number};
+use reference::{Header, Lister, Number, Refusal};
 
-fn refused(number: Number) -> Event {
+/// "0 to 4,109 with 4 and 9, else 0".
+fn place(refusal: Refusal) -> u32 {
+    refusal.place().unwrap_or(0) as u32
+}
+
+fn refused(refusal: Refusal) -> Event {
     Event {
         kind: 2,
-        number: u32::from(number),
+        number: refusal.number().into(),
+        place: place(refusal),
         ..Event::default()
     }
 }
@@ -25,6 +31,7 @@ fn frame(frame: reference::Frame) -> Event {
         adr: frame.header.adr,
         cid1: frame.header.cid1,
         cid2: frame.header.cid2,
+        place: 0,
         lenid: frame.lenid,
     }
 }
@@ -34,7 +41,7 @@ pub fn event(event: reference::Event) -> Event {
     match event {
         reference::Event::Nothing => Event::default(),
         reference::Event::Frame(heard) => frame(heard),
-        reference::Event::Refused(number) => refused(number),
+        reference::Event::Refused(refusal) => refused(refusal),
     }
 }
 
@@ -80,7 +87,7 @@ fn answered(answer: reference::Answer) -> Answered {
     }
 }
 
-fn reply(result: Result<reference::Reply, Number>) -> Reply {
+fn reply(result: Result<reference::Reply, Refusal>) -> Reply {
     match result {
         Ok(read) => Reply {
             kind: 1,
@@ -89,14 +96,16 @@ fn reply(result: Result<reference::Reply, Number>) -> Reply {
             code: read.code,
             flag: read.flag.unwrap_or(0),
             maker: read.maker.unwrap_or([0; 32]),
+            place: 0,
         },
-        Err(number) => Reply {
+        Err(refusal) => Reply {
             kind: 2,
-            number: u32::from(number),
+            number: refusal.number().into(),
             ver: 0,
             code: 0,
             flag: 0,
             maker: [0; 32],
+            place: place(refusal),
         },
     }
 }
@@ -196,7 +205,7 @@ pub fn outcome(case: &Case) -> Outcome {
     match case {
         Case::Judge { stretch } => Outcome::of(Returned::Event(match reference::judge(stretch) {
             Ok(heard) => frame(heard),
-            Err(number) => refused(number),
+            Err(refusal) => refused(refusal),
         })),
         Case::ReceiverNew => {
             let fresh = reference::Receiver::default();

@@ -19,8 +19,12 @@ pub enum End {
     Inside,
     /// A place past its end.
     Past,
-    /// The stand-in is silent.
+    /// The listing's lines have this refusal first of those with a place.
+    Listed(u32),
+    /// The stand-in is silent: the ADR names no member that is on.
     Silence,
+    /// The stand-in is silent: the stretch is refused with this number.
+    SilentFor(u8),
     /// A reply without data, with this code.
     Code(u8),
     /// The data of this command, for one module or without Command.
@@ -41,7 +45,9 @@ impl fmt::Display for End {
             End::Wrote => f.write_str("wrote"),
             End::Inside => f.write_str("inside"),
             End::Past => f.write_str("past"),
+            End::Listed(number) => write!(f, "listed no. {number}"),
             End::Silence => f.write_str("silence"),
+            End::SilentFor(number) => write!(f, "silence for no. {number}"),
             End::Code(code) => write!(f, "code {code:02X}H"),
             End::Data(cid2) => write!(f, "data {cid2:02X}H"),
             End::GroupData(cid2) => write!(f, "data {cid2:02X}H FFH"),
@@ -67,10 +73,29 @@ fn at(at: usize, length: usize) -> End {
     }
 }
 
+/// Why the stand-in is silent.
+fn silent(stretch: &[u8]) -> End {
+    match reference::judge(stretch).map_err(reference::Refusal::number) {
+        Err(number @ (1 | 3 | 4 | 9)) => End::SilentFor(number),
+        _ => End::Silence,
+    }
+}
+
+/// The first refusal with a place among the lines, or that there are lines, or none.
+fn listed(text: &[u8]) -> End {
+    let mut lines = text.split(|&byte| byte == b'\n');
+    match lines.find(|line| matches!(*line, b"refused=4" | b"refused=9")) {
+        Some(b"refused=4") => End::Listed(4),
+        Some(_) => End::Listed(9),
+        None if text.is_empty() => End::Plain,
+        None => End::Wrote,
+    }
+}
+
 /// How the stand-in answered, seen from the reply it wrote.
 fn answered(stretch: &[u8], bytes: &[u8], answered: &linked::Answered) -> End {
     match answered.kind {
-        0 => return End::Silence,
+        0 => return silent(stretch),
         1 => {}
         _ => return End::Refused(answered.number),
     }
@@ -121,12 +146,8 @@ pub fn end(case: &Case, outcome: &Outcome) -> End {
         (_, Returned::Ran(ran)) => event(&ran.event),
         (_, Returned::Written(written)) if written.number == 0 => End::Wrote,
         (_, Returned::Written(written)) => End::Refused(written.number),
-        (_, Returned::Listed(listed)) => match listed.written {
-            linked::Written {
-                number: 0,
-                length: 0,
-            } => End::Plain,
-            linked::Written { number: 0, .. } => End::Wrote,
+        (_, Returned::Listed(told)) => match told.written {
+            linked::Written { number: 0, length } => listed(&outcome.bytes[..length]),
             linked::Written { number, .. } => End::Refused(number),
         },
         (_, Returned::Number(0)) => End::Plain,
@@ -189,7 +210,7 @@ impl fmt::Display for Tally {
 fn required() -> Vec<(&'static str, End)> {
     let refused =
         |numbers: &[u32]| -> Vec<End> { numbers.iter().map(|&n| End::Refused(n)).collect() };
-    let frame_numbers = [3, 4, 5, 6, 7, 8];
+    let frame_numbers = [3, 4, 5, 6, 7, 8, 9];
     let mut all = Vec::new();
     let mut add =
         |function, ends: Vec<End>| all.extend(ends.into_iter().map(|end| (function, end)));
@@ -236,6 +257,7 @@ fn required() -> Vec<(&'static str, End)> {
         "hanuzak_answer",
         vec![End::Silence, End::Refused(31), End::Refused(32)],
     );
+    add("hanuzak_answer", [1, 3, 4, 9].map(End::SilentFor).to_vec());
     add("hanuzak_read_reply", refused(&[31, 34, 23, 1]));
     add("hanuzak_read_reply", refused(&frame_numbers));
     // 22 is for FFH alone.
@@ -246,6 +268,7 @@ fn required() -> Vec<(&'static str, End)> {
     );
     add("hanuzak_listing_new", vec![End::Plain]);
     add("hanuzak_list", vec![End::Plain, End::Wrote]);
+    add("hanuzak_list", [4, 9].map(End::Listed).to_vec());
     add("hanuzak_list", refused(&[32, 35]));
     add("hanuzak_list_close", vec![End::Wrote, End::Refused(32)]);
     add("hanuzak_tenths_celsius", vec![End::Plain]);

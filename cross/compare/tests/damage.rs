@@ -1,5 +1,5 @@
-//! Frames with a character lost, doubled or exchanged with its neighbour, and frames broken off, at
-//! every place, each with a good frame directly behind it.
+//! Frames with a character lost, doubled, exchanged with its neighbour or turned into one that is not
+//! hex, and frames broken off, at every place, each with a good frame directly behind it.
 //!
 //! The archive is driven by runs and by steps. Both must tell what the reference tells, at the same
 //! bytes, and that must be what is due by PROTOCOL 2.10 and 3.3, which is said here for each damage.
@@ -107,8 +107,10 @@ struct Due {
 enum What {
     /// The frame of this stretch.
     Frame(String),
-    /// A refusal with one of these numbers.
+    /// A refusal with one of these numbers, and without a place.
     Refusal(&'static [u32]),
+    /// A refusal with this number and the place of the bad character.
+    Bad { number: u32, place: usize },
 }
 
 impl What {
@@ -118,11 +120,17 @@ impl What {
             What::Frame(stretch) => {
                 let header = hex::characters(&[event.ver, event.adr, event.cid1, event.cid2]);
                 event.kind == 1
+                    && event.place == 0
                     && stretch.starts_with(&text(&header))
                     && stretch.len() == 16 + event.lenid
                     && *stretch == told.stretch
             }
-            What::Refusal(numbers) => event.kind == 2 && numbers.contains(&event.number),
+            What::Refusal(numbers) => {
+                event.kind == 2 && numbers.contains(&event.number) && event.place == 0
+            }
+            What::Bad { number, place } => {
+                event.kind == 2 && event.number == *number && event.place as usize == *place
+            }
         }
     }
 }
@@ -312,6 +320,28 @@ fn cut_and_closed(frame: &[u8], place: usize) -> Part {
     }
 }
 
+/// The frame with a bad character at one of its bytes, and behind it another of the other kind, which
+/// does not count.
+fn spoiled(frame: &[u8], at: usize, first: u8, behind: u8, number: u32) -> Part {
+    let mut bytes = frame.to_vec();
+    let last = frame.len() - 2;
+    bytes[last] = behind;
+    bytes[at] = first;
+    // The first character behind the tilde has place 0.
+    let place = at - 1;
+    Part::closed(&bytes, What::Bad { number, place })
+}
+
+/// A letter in lower case, as a terminal sends it.
+fn lowered(frame: &[u8], place: usize) -> Part {
+    spoiled(frame, place, b"abcdef"[place % 6], b'G', 4)
+}
+
+/// A character that is no digit in either case, as noise makes it.
+fn disturbed(frame: &[u8], place: usize) -> Part {
+    spoiled(frame, place, b"\xFF\0/:@G`g"[place % 8], b'f', 9)
+}
+
 // ---- every place
 
 /// A damage, and its places in a frame of so many bytes.
@@ -388,6 +418,17 @@ fn exchanged_neighbours_are_told_in_header_and_info_alone() {
 }
 
 #[test]
+fn a_bad_character_is_one_refusal_with_its_place() {
+    for damage in [lowered, disturbed] {
+        let kind = Kind {
+            damage,
+            places: |bytes| 1..bytes - 1,
+        };
+        assert_eq!(try_frames(&kind), streams(|lenid| 16 + lenid));
+    }
+}
+
+#[test]
 fn a_cut_is_refused_at_the_next_tilde() {
     let kind = Kind {
         damage: cut,
@@ -461,6 +502,9 @@ fn the_damages_are_what_their_names_say() {
     assert_eq!(damaged(cut, 17), "~2002464F0000FD98");
     assert_eq!(damaged(cut_and_closed, 1), "~\r");
     assert_eq!(damaged(cut_and_closed, 16), "~2002464F0000FD9\r");
+    assert_eq!(damaged(lowered, 1), "~b002464F0000FD9G\r");
+    assert_eq!(damaged(lowered, 16), "~2002464F0000FD9e\r");
+    assert_eq!(damaged(disturbed, 5), "~2002G64F0000FD9f\r");
 }
 
 /// Damage between equal characters would be no damage.
@@ -476,7 +520,7 @@ fn long_frames_hold_every_digit() {
 /// Makes the right events wrong, which are a refusal and the frame behind.
 type Spoil = fn(&mut Vec<Told>);
 
-const WRONG: [(&str, Spoil); 12] = [
+const WRONG: [(&str, Spoil); 14] = [
     ("a frame for the refusal", |told| {
         told[0] = Told {
             at: told[0].at,
@@ -493,11 +537,13 @@ const WRONG: [(&str, Spoil); 12] = [
     ("no refusal", |told| drop(told.remove(0))),
     ("two refusals", |told| told.insert(0, told[0].clone())),
     ("8 for 7", |told| told[0].event.number = 8),
+    ("a place beside 7", |told| told[0].event.place = 1),
     ("the refusal too early", |told| told[0].at -= 1),
     ("no frame behind", |told| drop(told.pop())),
     ("the frame behind too late", |told| told[1].at += 1),
     ("another module", |told| told[1].event.adr ^= 1),
     ("another LENID", |told| told[1].event.lenid -= 2),
+    ("a place beside a frame", |told| told[1].event.place = 1),
     ("other characters", |told| {
         told[1].stretch.replace_range(12..13, "x")
     }),
@@ -511,6 +557,27 @@ fn wrong_events_are_objected_to() {
     let right = archive_by_runs(&stream.bytes);
     assert_eq!(judged(&right, &stream.due), Ok(()));
     for (what, spoil) in WRONG {
+        let mut told = right.clone();
+        spoil(&mut told);
+        assert!(judged(&told, &stream.due).is_err(), "{what}");
+    }
+}
+
+const WRONG_PLACES: [(&str, Spoil); 5] = [
+    ("9 for 4", |told| told[0].event.number = 9),
+    ("8 for 4", |told| told[0].event.number = 8),
+    ("the place too far", |told| told[0].event.place += 1),
+    ("the place too near", |told| told[0].event.place -= 1),
+    ("no place", |told| told[0].event.place = 0),
+];
+
+#[test]
+fn wrong_places_are_objected_to() {
+    let frame = &frames(2, 1)[0];
+    let stream = joined(&[&lowered(frame, LENGTH.end), &good_behind()]);
+    let right = archive_by_runs(&stream.bytes);
+    assert_eq!(judged(&right, &stream.due), Ok(()));
+    for (what, spoil) in WRONG_PLACES {
         let mut told = right.clone();
         spoil(&mut told);
         assert!(judged(&told, &stream.due).is_err(), "{what}");

@@ -5,7 +5,7 @@ use compare::case::{Case, Outcome, Returned};
 use compare::difference::{Comparison, Done};
 use compare::kinds::{frames, listing, meanings, receiver, reply, standin, tables, writers};
 use compare::{input, paper};
-use linked::Module;
+use linked::{Event, Module};
 use reference::seeded::Seeded;
 
 type Side = fn(&Case) -> Outcome;
@@ -46,6 +46,146 @@ fn lower_case_is_taken() {
     };
     assert_eq!(stretch.len(), 16);
     assert_eq!(stretch.iter().filter(|c| c.is_ascii_lowercase()).count(), 1);
+}
+
+/// The reference's outcome with each event in it changed.
+fn with_event(case: &Case, change: impl Fn(&mut Event)) -> Outcome {
+    let mut outcome = paper::outcome(case);
+    match &mut outcome.returned {
+        Returned::Event(event) => change(event),
+        Returned::Stepped(stepped) => change(&mut stepped.event),
+        Returned::Ran(ran) => change(&mut ran.event),
+        _ => {}
+    }
+    outcome
+}
+
+fn has_place(number: u32) -> bool {
+    number == 4 || number == 9
+}
+
+fn is_hex(character: &u8) -> bool {
+    reference::hex::digit(*character).is_some()
+}
+
+/// Runs the judge's kind against a wrong side; the stretch found has 16 characters.
+fn found_stretch(wrong: Side) -> Vec<u8> {
+    let case = found(frames::all, wrong, 23);
+    let Case::Judge { stretch } = case else {
+        panic!("{case:?}");
+    };
+    assert_eq!(stretch.len(), 16);
+    stretch
+}
+
+#[test]
+fn the_place_is_one_too_far() {
+    let stretch = found_stretch(|case| {
+        with_event(case, |event| {
+            event.place += u32::from(has_place(event.number))
+        })
+    });
+    assert_eq!(stretch.iter().filter(|c| !is_hex(c)).count(), 1);
+}
+
+#[test]
+fn the_place_is_always_0() {
+    let stretch = found_stretch(|case| with_event(case, |event| event.place = 0));
+    assert!(is_hex(&stretch[0]));
+}
+
+#[test]
+fn nine_for_four() {
+    let stretch = found_stretch(|case| {
+        with_event(case, |event| {
+            event.number = if event.number == 4 { 9 } else { event.number };
+        })
+    });
+    assert_eq!(stretch.iter().filter(|c| !is_hex(c)).count(), 1);
+}
+
+#[test]
+fn four_for_nine() {
+    found_stretch(|case| {
+        with_event(case, |event| {
+            event.number = if event.number == 9 { 4 } else { event.number };
+        })
+    });
+}
+
+#[test]
+fn g_is_a_letter_in_lower_case_too() {
+    let stretch = found_stretch(|case| match case {
+        Case::Judge { stretch } => with_event(case, |event| {
+            if event.number == 9 && stretch[event.place as usize] == b'g' {
+                event.number = 4;
+            }
+        }),
+        other => paper::outcome(other),
+    });
+    assert!(stretch.contains(&b'g'));
+}
+
+/// The place and the kind of the last bad character in the place of the first one's.
+fn by_the_last(case: &Case, change: impl Fn(&mut Event, u32, u8)) -> Outcome {
+    let Case::Judge { stretch } = case else {
+        return paper::outcome(case);
+    };
+    with_event(case, |event| {
+        let last = stretch.iter().rposition(|c| !is_hex(c));
+        if let (true, Some(last)) = (has_place(event.number), last) {
+            change(event, last as u32, stretch[last]);
+        }
+    })
+}
+
+#[test]
+fn the_place_of_the_last_bad_character() {
+    let stretch = found_stretch(|case| by_the_last(case, |event, last, _| event.place = last));
+    assert_eq!(stretch.iter().filter(|c| !is_hex(c)).count(), 2);
+}
+
+#[test]
+fn the_last_bad_character_decides() {
+    let stretch = found_stretch(|case| {
+        by_the_last(case, |event, _, character| {
+            let lower = (b'a'..=b'f').contains(&character);
+            event.number = if lower { 4 } else { 9 };
+        })
+    });
+    assert_eq!(stretch.iter().filter(|c| !is_hex(c)).count(), 2);
+}
+
+#[test]
+fn a_place_beside_another_number() {
+    found(
+        frames::all,
+        |case| with_event(case, |event| event.place += u32::from(event.number == 8)),
+        23,
+    );
+}
+
+#[test]
+fn the_receiver_forgets_the_place() {
+    found(
+        receiver::all,
+        |case| with_event(case, |event| event.place = 0),
+        // A store of 16 characters, one of them bad, with the CR to come.
+        45,
+    );
+}
+
+#[test]
+fn the_receiver_forgets_which_character_was_bad() {
+    found(
+        receiver::all,
+        |case| {
+            with_event(case, |event| {
+                event.number = if event.number == 9 { 4 } else { event.number };
+            })
+        },
+        45,
+    );
 }
 
 #[test]
@@ -338,6 +478,24 @@ fn a_module_with_a_fault_answers() {
     );
 }
 
+#[test]
+fn noise_is_answered() {
+    let case = found(
+        standin::all,
+        |case| {
+            let mut case = case.clone();
+            if let Case::Answer { stretch, .. } = &mut case {
+                if let Err(reference::Refusal::NoHexDigit(place)) = reference::judge(stretch) {
+                    stretch[place] = b'0';
+                }
+            }
+            paper::outcome(&case)
+        },
+        75,
+    );
+    assert!(matches!(case, Case::Answer { .. }));
+}
+
 fn reading(case: &Case, change: impl FnOnce(&[Module], &mut Outcome)) -> Outcome {
     let mut outcome = paper::outcome(case);
     if let Case::ReadReply { table, .. } = case {
@@ -400,6 +558,22 @@ fn the_flag_is_not_returned() {
 }
 
 #[test]
+fn the_reply_reader_forgets_the_place() {
+    let case = found(
+        reply::all,
+        |case| {
+            reading(case, |_, outcome| {
+                if let Returned::Reply(reply) = &mut outcome.returned {
+                    reply.place = 0;
+                }
+            })
+        },
+        40,
+    );
+    assert!(matches!(case, Case::ReadReply { .. }));
+}
+
+#[test]
 fn code_and_info_are_judged_the_other_way_round() {
     found(
         reply::all,
@@ -416,6 +590,50 @@ fn code_and_info_are_judged_the_other_way_round() {
             })
         },
         20,
+    );
+}
+
+/// A listing's outcome with each line changed, or dropped where it becomes empty.
+fn with_lines(case: &Case, change: impl Fn(&str) -> String) -> Outcome {
+    let mut outcome = paper::outcome(case);
+    if let (Case::List { out, .. }, Returned::Listed(listed)) = (case, &mut outcome.returned) {
+        let text = String::from_utf8(outcome.bytes[..listed.written.length].to_vec()).unwrap();
+        let changed: String = text.split_inclusive('\n').map(change).collect();
+        outcome.bytes.clone_from(out);
+        outcome.bytes[..changed.len()].copy_from_slice(changed.as_bytes());
+        listed.written.length = changed.len();
+    }
+    outcome
+}
+
+#[test]
+fn the_listing_has_no_place() {
+    found(
+        listing::all,
+        |case| {
+            with_lines(case, |line| match line.strip_prefix("place=") {
+                Some(_) => String::new(),
+                None => line.to_string(),
+            })
+        },
+        60,
+    );
+}
+
+#[test]
+fn the_listing_s_place_is_hex() {
+    found(
+        listing::all,
+        |case| {
+            with_lines(case, |line| match line.strip_prefix("place=") {
+                Some(place) => {
+                    let place: usize = place.trim_end().parse().unwrap();
+                    format!("place={place:X}\n")
+                }
+                None => line.to_string(),
+            })
+        },
+        60,
     );
 }
 

@@ -4,12 +4,13 @@ use crate::stack::{frame, Stack, VER};
 use reference::seeded::Seeded;
 
 /// All captures by name.
-pub fn all() -> [(&'static str, Vec<u8>); 8] {
+pub fn all() -> [(&'static str, Vec<u8>); 9] {
     [
         ("stack", stack()),
         ("relay", relay()),
         ("damage", damage()),
         ("lower", lower()),
+        ("noisy", noisy()),
         ("long", long()),
         ("noise", noise()),
         ("bench", bench()),
@@ -121,6 +122,36 @@ fn lower() -> Vec<u8> {
     line.extend(one);
     line.extend(b"~21024642E00202fd32\r");
     line.extend(b"~21024642E00202FD32\r");
+    line
+}
+
+/// A noisy adapter: one bit of a character is another, with the question whole each time. One bit can
+/// also lower a letter, which looks like a terminal's work, but for the other letters of the stretch.
+fn noisy() -> Vec<u8> {
+    let question = frame(VER, 0x02, 0x46, 0x42, &[0x02]);
+    let reply = Stack::new().reply_to(&question);
+    let mut line = [&question[..], &reply].concat();
+    let mut disturbed = |damage: fn(&mut Vec<u8>)| {
+        let mut reply = reply.clone();
+        damage(&mut reply);
+        line.extend(&question);
+        line.extend(reply);
+    };
+    // The highest bit of the third digit of the first cell.
+    disturbed(|reply| reply[DIGIT] |= 0x80);
+    // A letter of the first cell becomes one in lower case.
+    disturbed(|reply| reply[DIGIT - 1] |= 0x20);
+    // Both, and the first of them decides; then the other way round.
+    disturbed(|reply| {
+        reply[DIGIT - 1] |= 0x20;
+        reply[DIGIT] |= 0x80;
+    });
+    disturbed(|reply| {
+        reply[DIGIT - 2] |= 0x80;
+        reply[DIGIT - 1] |= 0x20;
+    });
+    line.extend(&question);
+    line.extend(&reply);
     line
 }
 

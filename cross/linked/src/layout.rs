@@ -24,7 +24,7 @@ layout!(Limits: 10, 2; charge_voltage 0 2, discharge_voltage 2 2, charge_current
 layout!(Module: 140, 4; adr 0 1, on 1 1, link_fault 2 1, analog 4 68, alarm 72 34, limits 106 10, serial 116 16, version 132 5);
 layout!(Station: 33, 1; ver 0 1, maker 1 32);
 layout!(Written: 16, 8; number 0 4, length 8 8);
-layout!(Event: 24, 8; kind 0 4, number 4 4, ver 8 1, adr 9 1, cid1 10 1, cid2 11 1, lenid 16 8);
+layout!(Event: 24, 8; kind 0 4, number 4 4, ver 8 1, adr 9 1, cid1 10 1, cid2 11 1, place 12 4, lenid 16 8);
 layout!(Receiver: 16, 8; open 0 8, count 8 8);
 layout!(Stepped: 40, 8; next 0 16, event 16 24);
 layout!(Ran: 56, 8; next 0 16, event 16 24, taken 40 8, held 48 8);
@@ -32,4 +32,4 @@ layout!(Listing: 32, 8; receiver 0 16, offset 16 4, frames 20 4, refusals 24 4);
 layout!(Listed: 56, 8; next 0 32, taken 32 8, written 40 16);
 layout!(Answered: 16, 8; kind 0 4, number 4 4, length 8 8);
 layout!(Question: 3, 1; adr 0 1, cid2 1 1, command 2 1);
-layout!(Reply: 44, 4; kind 0 4, number 4 4, ver 8 1, code 9 1, flag 10 1, maker 11 32);
+layout!(Reply: 48, 4; kind 0 4, number 4 4, ver 8 1, code 9 1, flag 10 1, maker 11 32, place 44 4);

@@ -27,7 +27,7 @@ pub const CLOSING: usize = 38;
 /// The most records that a table has.
 pub const MODULES: usize = 12;
 
-/// Judges the bytes between SOI and CR: a frame, or refused with 1 or 3 to 8.
+/// Judges the bytes between SOI and CR: a frame, or refused with 1 or 3 to 9.
 #[inline]
 pub fn judge(stretch: &[u8]) -> Event {
     // SAFETY: the slice is readable for its length.

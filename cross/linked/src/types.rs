@@ -120,6 +120,8 @@ pub struct Event {
     pub cid1: u8,
     /// CID2.
     pub cid2: u8,
+    /// With 4 and 9 the place of the first bad character, else 0.
+    pub place: u32,
     /// The number of INFO's characters.
     pub lenid: usize,
 }
@@ -224,4 +226,6 @@ pub struct Reply {
     pub flag: u8,
     /// The 32 bytes of 51H; zeros for every other command and with a refusal.
     pub maker: [u8; 32],
+    /// With 4 and 9 the place of the first bad character, else 0.
+    pub place: u32,
 }

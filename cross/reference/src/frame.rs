@@ -1,7 +1,7 @@
 //! The frame: LENGTH, CHKSUM, judging the characters between SOI and CR, writing a frame
 //! (PROTOCOL 2).
 
-use crate::{hex, Number};
+use crate::{hex, Number, Refusal};
 
 /// SOI, tilde.
 pub const SOI: u8 = 0x7E;
@@ -62,39 +62,50 @@ pub fn chksum(characters: &[u8]) -> u16 {
     }
 }
 
-/// Judges the bytes between SOI and CR: 1 above 4,110, then 3 to 8, in that order (PROTOCOL 2.10).
-pub fn judge(stretch: &[u8]) -> Result<Frame, Number> {
+/// 4 where the first character that isn't hex is `a` to `f`, 9 where it is anything else, with its
+/// place; later ones do not count (PROTOCOL 2.10).
+fn bad_character(stretch: &[u8]) -> Option<Refusal> {
+    let place = stretch.iter().position(|&c| hex::digit(c).is_none())?;
+    Some(match stretch[place] {
+        b'a'..=b'f' => Refusal::LowerCase(place),
+        _ => Refusal::NoHexDigit(place),
+    })
+}
+
+/// Judges the bytes between SOI and CR: 1 above 4,110, then 3, then 4 or 9, then 5 to 8, in that order
+/// (PROTOCOL 2.10).
+pub fn judge(stretch: &[u8]) -> Result<Frame, Refusal> {
     // 1: a 4,111th character arrives.
     if stretch.len() > MOST_CHARACTERS {
-        return Err(1);
+        return Err(Refusal::Plain(1));
     }
     // 3: fewer than 16 characters.
     if stretch.len() < 16 {
-        return Err(3);
+        return Err(Refusal::Plain(3));
     }
-    // 4: a character that isn't hex.
-    if stretch.iter().any(|&c| hex::digit(c).is_none()) {
-        return Err(4);
+    // 4 or 9: a character that isn't hex.
+    if let Some(refusal) = bad_character(stretch) {
+        return Err(refusal);
     }
-    let head = hex::bytes(&stretch[..12]).ok_or(4)?;
+    let head = hex::bytes(&stretch[..12]).expect("twelve hex characters");
     let length = u16::from_be_bytes([head[4], head[5]]);
     let lenid = length & 0x0FFF;
     // 5: LCHKSUM differs.
     if length >> 12 != lchksum(lenid) {
-        return Err(5);
+        return Err(Refusal::Plain(5));
     }
     // 6: LENID odd.
     if lenid % 2 == 1 {
-        return Err(6);
+        return Err(Refusal::Plain(6));
     }
     // 7: count is not 16 + LENID.
     if stretch.len() != 16 + usize::from(lenid) {
-        return Err(7);
+        return Err(Refusal::Plain(7));
     }
     // 8: CHKSUM differs.
     let (summed, check) = stretch.split_at(stretch.len() - 4);
     if check != hex::characters(&chksum(summed).to_be_bytes()) {
-        return Err(8);
+        return Err(Refusal::Plain(8));
     }
     let header = Header {
         ver: head[0],

@@ -1,7 +1,7 @@
 //! Characters and bytes: `0` to `9` and `A` to `F` only, two for each byte, high digit first
 //! (PROTOCOL 2.3).
 
-/// The value of a character. Lower case is not hex here.
+/// The value of a character. Lower case is not hex here, so a letter `a` to `f` has none.
 pub fn digit(character: u8) -> Option<u8> {
     match character {
         b'0'..=b'9' => Some(character - b'0'),

@@ -14,6 +14,7 @@ pub mod listing;
 pub mod meaning;
 pub mod module;
 pub mod receiver;
+pub mod refusal;
 pub mod reply;
 pub mod seeded;
 pub mod standin;
@@ -28,9 +29,7 @@ pub use listing::{listing, Lister};
 pub use meaning::{milliamps, tenths_celsius};
 pub use module::{new_module, Alarm, Analog, Limits, Module};
 pub use receiver::{run, step, Event, Ran, Receiver};
+pub use refusal::{Number, Refusal};
 pub use reply::{read_reply, Question, Reply};
 pub use standin::{answer, Answer};
 pub use table::{rule, Station};
-
-/// A refusal: its number (PROTOCOL 4.2 to 4.4).
-pub type Number = u8;

@@ -1,4 +1,4 @@
-//! The listing: a frame gives six lines, a refusal two (PROTOCOL 11).
+//! The listing: a frame gives six lines, a refusal two, and with a place three (PROTOCOL 11).
 
 use crate::frame::{MOST_CHARACTERS, SOI};
 use crate::receiver::{step, Event, Receiver};
@@ -96,10 +96,13 @@ impl Lister {
                     text.extend(&self.store[12..12 + frame.lenid]);
                     text.push(b'\n');
                 }
-                Event::Refused(number) => {
+                Event::Refused(refusal) => {
                     self.refusals += 1;
                     text.extend(format!("at={}\n", self.opened).bytes());
-                    text.extend(format!("refused={number}\n").bytes());
+                    text.extend(format!("refused={}\n", refusal.number()).bytes());
+                    if let Some(place) = refusal.place() {
+                        text.extend(format!("place={place}\n").bytes());
+                    }
                 }
             }
             // `at` is the offset of the SOI that opened the stretch: this byte, from the next event

@@ -1,7 +1,7 @@
 //! The receiver, which writes the characters to a lent store of at least 4,110 bytes (PROTOCOL 3).
 
 use crate::frame::{judge, Frame, CR, MOST_CHARACTERS, SOI};
-use crate::Number;
+use crate::{Number, Refusal};
 
 /// Waiting, or open with a count of characters (PROTOCOL 3.1).
 #[derive(Clone, Copy, Debug, Default, PartialEq, Eq)]
@@ -20,8 +20,8 @@ pub enum Event {
     Nothing,
     /// A frame.
     Frame(Frame),
-    /// A refusal: 1 to 8, and 32 or 35 for the call itself.
-    Refused(Number),
+    /// A refusal: 1 to 9, and 32 or 35 for the call itself.
+    Refused(Refusal),
 }
 
 /// What a run over a piece of the stream gives.
@@ -52,21 +52,23 @@ fn call_refusal(receiver: Receiver, store: &[u8]) -> Option<Number> {
 /// Takes one byte (PROTOCOL 3.3). After 32 and 35 the receiver comes back as it went in.
 pub fn step(receiver: Receiver, store: &mut [u8], byte: u8) -> (Receiver, Event) {
     if let Some(number) = call_refusal(receiver, store) {
-        return (receiver, Event::Refused(number));
+        return (receiver, Event::Refused(Refusal::Plain(number)));
     }
     match (receiver, byte) {
         // Waiting: SOI opens with count 0, any other byte gives nothing.
         (Receiver::Waiting, SOI) => (Receiver::Open(0), Event::Nothing),
         (Receiver::Waiting, _) => (Receiver::Waiting, Event::Nothing),
         // Open, SOI: 2, and open again with count 0.
-        (Receiver::Open(_), SOI) => (Receiver::Open(0), Event::Refused(2)),
+        (Receiver::Open(_), SOI) => (Receiver::Open(0), Event::Refused(Refusal::Plain(2))),
         // Open, CR: the characters are judged, then waiting.
         (Receiver::Open(count), CR) => match judge(&store[..count]) {
             Ok(frame) => (Receiver::Waiting, Event::Frame(frame)),
-            Err(number) => (Receiver::Waiting, Event::Refused(number)),
+            Err(refusal) => (Receiver::Waiting, Event::Refused(refusal)),
         },
         // Open, any other byte, with count 4,110: 1, nothing is stored, then waiting.
-        (Receiver::Open(MOST_CHARACTERS), _) => (Receiver::Waiting, Event::Refused(1)),
+        (Receiver::Open(MOST_CHARACTERS), _) => {
+            (Receiver::Waiting, Event::Refused(Refusal::Plain(1)))
+        }
         // Open, any other byte: stored at place count, and count is one more.
         (Receiver::Open(count), _) => {
             store[count] = byte;
@@ -81,7 +83,7 @@ pub fn run(receiver: Receiver, store: &mut [u8], piece: &[u8]) -> Ran {
     if let Some(number) = call_refusal(receiver, store) {
         return Ran {
             next: receiver,
-            event: Event::Refused(number),
+            event: Event::Refused(Refusal::Plain(number)),
             taken: 0,
             held: 0,
         };

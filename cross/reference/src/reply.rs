@@ -6,7 +6,7 @@ use crate::frame::{info, judge};
 use crate::info::GROUP;
 use crate::module::Module;
 use crate::standin::{required_lenid, takes_group};
-use crate::{table, Number};
+use crate::{table, Number, Refusal};
 
 /// What was asked.
 #[derive(Clone, Copy, Debug, Default, PartialEq, Eq)]
@@ -118,35 +118,35 @@ fn replace<T>(
     }
 }
 
-/// Reads a reply to a question. Its refusals, in this order: 31, 34, 23, 1 and 3 to 8, 11, 12, 13,
-/// 14, 21 or 16, the record's in byte order, 17, 22 (PROTOCOL 8.2).
+/// Reads a reply to a question. Its refusals, in this order: 31, 34, 23, those of the judged stretch,
+/// 11, 12, 13, 14, 21 or 16, the record's in byte order, 17, 22 (PROTOCOL 8.2).
 pub fn read_reply(
     lent: &mut [Module],
     question: Question,
     stretch: &[u8],
-) -> Result<Reply, Number> {
+) -> Result<Reply, Refusal> {
     table::rule(lent)?;
     if !can_be_asked(question) {
-        return Err(34);
+        return Err(Refusal::Plain(34));
     }
     // 23: the ADR asked is not in the table.
-    let place = table::place(lent, question.adr).ok_or(23)?;
+    let place = table::place(lent, question.adr).ok_or(Refusal::Plain(23))?;
     let frame = judge(stretch)?;
     // 11: the reply's ADR is not the one asked.
     if frame.header.adr != question.adr {
-        return Err(11);
+        return Err(Refusal::Plain(11));
     }
     // 12: its CID1 is not 46H.
     if frame.header.cid1 != 0x46 {
-        return Err(12);
+        return Err(Refusal::Plain(12));
     }
     let code = frame.header.cid2;
     if !is_return_code(code) {
-        return Err(13);
+        return Err(Refusal::Plain(13));
     }
     // 14: INFO with a code other than 00H.
     if code != 0x00 && frame.lenid != 0 {
-        return Err(14);
+        return Err(Refusal::Plain(14));
     }
     let mut reply = Reply {
         ver: frame.header.ver,

@@ -223,6 +223,17 @@ impl Seeded {
         }
     }
 
+    /// A character that is not hex: a letter in lower case, SOI, CR, a neighbour of the digits and
+    /// letters, or any other.
+    pub fn bad_character(&mut self) -> u8 {
+        match self.below(4) {
+            0 => self.pick(b"abcdef"),
+            1 => self.pick(&[SOI, CR, 0, 0xFF]),
+            2 => self.pick(b"/:@G`g"),
+            _ => self.pick(&[b'x', b' ', b'\n', 0x80, 0xE1, 0xB0]),
+        }
+    }
+
     /// Changes, drops or doubles one byte.
     pub fn damage(&mut self, bytes: &mut Vec<u8>) {
         if bytes.is_empty() {
@@ -232,7 +243,7 @@ impl Seeded {
         match self.below(6) {
             0 => bytes[place] = self.byte(),
             1 => bytes[place] = hex::character(self.byte()),
-            2 => bytes[place] = self.pick(&[SOI, CR, b'a', b'G', b'/', b':', b'@', 0]),
+            2 => bytes[place] = self.bad_character(),
             3 => drop(bytes.remove(place)),
             4 => bytes.insert(place, bytes[place]),
             _ => bytes.truncate(place),

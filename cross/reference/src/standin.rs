@@ -4,7 +4,7 @@ use crate::frame::{judge, Header};
 use crate::info::GROUP;
 use crate::module::{is_master, Module};
 use crate::table::{self, Station};
-use crate::{frame, hex, info, Number};
+use crate::{frame, hex, info, Number, Refusal};
 
 /// The least length of the lent buffer (PROTOCOL 7.2).
 pub const ROOM: usize = 4_112;
@@ -37,7 +37,7 @@ pub fn takes_group(adr: u8, cid2: u8) -> bool {
 
 /// The return code of the first of the eleven steps that applies (PROTOCOL 7.5).
 fn code(lent: &[Module], place: usize, station: &Station, stretch: &[u8]) -> u8 {
-    let heard = match judge(stretch) {
+    let heard = match judge(stretch).map_err(Refusal::number) {
         Ok(heard) => heard,
         Err(5) => return 0x03,     // 1. refusal 5: code 03H
         Err(6 | 7) => return 0x05, // 2. refusal 6 or 7: 05H
@@ -128,9 +128,9 @@ pub fn answer(lent: &mut [Module], station: &Station, stretch: &[u8], out: &mut 
     if let Err(number) = table::rule(lent) {
         return Answer::Refused(number);
     }
-    // Silence for 1, 3 and 4, and for an ADR that names no member that is on (PROTOCOL 7.3).
-    let judged = judge(stretch);
-    if let Err(1 | 3 | 4) = judged {
+    // Silence for 1, 3, 4 and 9, and for an ADR that names no member that is on (PROTOCOL 7.3).
+    let judged = judge(stretch).map_err(Refusal::number);
+    if let Err(1 | 3 | 4 | 9) = judged {
         return Answer::Silence;
     }
     let Some(adr) = hex::bytes(&stretch[2..4]).map(|bytes| bytes[0]) else {

@@ -16,6 +16,12 @@ enum-known-judged c = search needs
 number-requires : tie.Need-number-requires
 number-requires c κs = search needs
 
+enum-known-judged-2 : tie.Need-enum-known-judged-2
+enum-known-judged-2 c = search needs
+
+number-requires-2 : tie.Need-number-requires-2
+number-requires-2 c κs = search needs
+
 returns : tie.Need-returns
 unfolding numberOf
 returns c = sym (ap (λ (j : Judged). numberOf (paper j)) (c .enum-told .given .1))
@@ -24,5 +30,9 @@ returns-2 : tie.Need-returns-2
 unfolding numberOf
 returns-2 c = c .number .ensures ∙ sym (ap (λ (j : Judged). numberOf (paper j)) (c .before .before .judged .given .1))
 
+returns-3 : tie.Need-returns-3
+unfolding numberOf
+returns-3 c = c .number2 .ensures ∙ sym (ap (λ (j : Judged). numberOf (paper j)) (c .before .before .judged2 .given .1))
+
 pub number-of-spec : {M : Type 1} → statement M
-number-of-spec = tie.close (tie.spec enum-told enum-known-judged number-requires returns returns-2)
+number-of-spec = tie.close (tie.spec enum-told enum-known-judged number-requires enum-known-judged-2 number-requires-2 returns returns-2 returns-3)

@@ -1,11 +1,13 @@
 -- Each return has passed the tests before its own, in the paper's order.
-use mathlib.Core.Path.{sym}
+use mathlib.Core.Path.{_≡_, sym, _∙_}
+use mathlib.Core.Bool.{false}
 use Prim.Native.Nat.{_+_, _-_, _%_}
 use native.Mathlib.Omega.{arith}
 use lib.Seq.{length-take-le}
 use lib.ListN.{length}
 use borrow.Author.Tests.{le-leb, lt-leb, eq-eqb, ne-eqb, not-true, not-false}
 use borrow.Author.Needs.{needs}
+use Rattle.hex.specs.Hex.{allHex}
 use Rattle.frame.specs.Judge.{lenid, judge, need}
 use Rattle.frame.proofs.judge.Statement.{statement}
 use Rattle.frame.proofs.judge.Tie as tie
@@ -24,12 +26,17 @@ returns-2 c =
 all-hex-requires : tie.Need-all-hex-requires
 all-hex-requires c κs = search needs
 
+bad-character-requires : tie.Need-bad-character-requires
+bad-character-requires c κs = (sym (c .before .all-hex .ensures) ∙ not-true (c .before .all-hex .result) (c .if3 .taken), c .before .before .before .if1 .left)
+
 returns-3 : tie.Need-returns-3
 unfolding judge need lenid
 returns-3 c =
-    let start = c .before .before .before .before .before in
+    let start = c .before .before .before .before .before .before in
     let stretch = start .args .stretch .now in
-    simp (le-leb (length stretch) 4110 (c .before .before .before .if1 .left), le-leb 16 (length stretch) (c .before .before .if2 .left), ← c .before .all-hex .ensures, not-true (c .before .all-hex .result) (c .if3 .taken))
+    let no : allHex stretch ≡ false = sym (c .before .before .all-hex .ensures) ∙ not-true (c .before .before .all-hex .result) (c .before .if3 .taken) in
+    let bad = rw no at (c .bad-character .ensures) in
+    simp (le-leb (length stretch) 4110 (c .before .before .before .before .if1 .left), le-leb 16 (length stretch) (c .before .before .before .if2 .left), no, bad)
 
 word-at-requires : tie.Need-word-at-requires
 word-at-requires c κs = search needs
@@ -105,8 +112,8 @@ returns-7 c =
 header-of-requires : tie.Need-header-of-requires
 header-of-requires c κs = search needs
 
-cast-t16 : tie.Need-cast-t16
-cast-t16 c = search needs
+cast-t15 : tie.Need-cast-t15
+cast-t15 c = search needs
 
 returns-8 : tie.Need-returns-8
 unfolding judge need lenid
@@ -131,6 +138,7 @@ judge-spec =
     returns
     returns-2
     all-hex-requires
+    bad-character-requires
     returns-3
     word-at-requires
     lchksum-requires
@@ -145,5 +153,5 @@ judge-spec =
     chksum-requires
     returns-7
     header-of-requires
-    cast-t16
+    cast-t15
     returns-8)

@@ -20,6 +20,9 @@ wrapping-add-u32-requires c κs = search needs
 enum-told-3 : tie.Need-enum-told-3
 enum-told-3 c = search needs
 
+enum-told-4 : tie.Need-enum-told-4
+enum-told-4 c = search needs
+
 returns : tie.Need-returns
 returns c = search needs
 
@@ -29,6 +32,9 @@ returns-2 c = c .wrapping-add-u32 .ensures ∙ ap (λ (e : Event). framesThen (c
 returns-3 : tie.Need-returns-3
 returns-3 c = search needs
 
+returns-4 : tie.Need-returns-4
+returns-4 c = search needs
+
 pub frames-then-spec : {M : Type 1} → statement M
 frames-then-spec =
     tie.close
@@ -37,6 +43,8 @@ frames-then-spec =
     enum-told-2
     wrapping-add-u32-requires
     enum-told-3
+    enum-told-4
     returns
     returns-2
-    returns-3)
+    returns-3
+    returns-4)

@@ -4,9 +4,9 @@ use mathlib.Core.List.{List}
 use Prim.Native.Nat.{ℕ, _-_}
 use native.Mathlib.Omega.{arith}
 use borrow.Author.Needs.{needs}
-use Rattle.texts.proofs.Texts.{refusal-short, lines-one}
+use Rattle.texts.proofs.Texts.{refusal-short, placed-short, lines-one}
 use Rattle.listing.specs.Within.{Stands}
-use Rattle.texts.specs.Block.{frameBlock, refusalBlock, lines, blockOf}
+use Rattle.texts.specs.Block.{frameBlock, refusalBlock, placedBlock, lines, blockOf}
 use Rattle.receiver.specs.declared.Event.the-variants.{Frame}
 use Rattle.receiver.specs.declared.Event.{Event}
 use Rattle.receiver.specs.Step.{paper}
@@ -40,6 +40,17 @@ put-refusal-requires c κs =
     let start = c .before .before .before .before .before .before .before in
     record { fits = omega (arith, start .pre .0, refusal-short (start .args .soi) (c .number .result) (search needs) (search needs)) }
 
+enum-known-event-3 : tie.Need-enum-known-event-3
+enum-known-event-3 c = search needs
+
+number-requires-2 : tie.Need-number-requires-2
+number-requires-2 c κs = search needs
+
+put-placed-requires : tie.Need-put-placed-requires
+put-placed-requires c κs =
+    let start = c .before .before .before .before .before .before .before in
+    record { fits = omega (arith, start .pre .0, placed-short (start .args .soi) (c .number2 .result) (c .before .before .before .event3 .given .0 .1 .0) (search needs) (search needs) (search needs)) }
+
 returns : tie.Need-returns
 unfolding lines
 returns c =
@@ -70,6 +81,16 @@ returns-3 c =
     let a = start .args in
     rw (event2 .given .1, lines-one (refusalBlock (a .soi) (number (event2 .given .0 .0))), ← c .before .before .before .number .ensures) (c .before .before .put-refusal .ensures)
 
+same-length-3 : tie.Need-same-length-3
+same-length-3 c = search needs
+
+returns-4 : tie.Need-returns-4
+returns-4 c =
+    let start = c .before .before .before .before .before .before .before .before .before .before in
+    let event3 = c .before .before .before .before .before .before .event3 in
+    let a = start .args in
+    rw (event3 .given .1, lines-one (placedBlock (a .soi) (number (event3 .given .0 .0)) (event3 .given .0 .1 .0)), ← c .before .before .before .number2 .ensures) (c .before .before .put-placed .ensures)
+
 pub put-event-spec : {M : Type 1} → statement M
 put-event-spec =
     tie.close
@@ -80,8 +101,13 @@ put-event-spec =
     enum-known-event-2
     number-requires
     put-refusal-requires
+    enum-known-event-3
+    number-requires-2
+    put-placed-requires
     returns
     same-length
     returns-2
     same-length-2
-    returns-3)
+    returns-3
+    same-length-3
+    returns-4)

@@ -20,6 +20,12 @@ enum-told-3 c = search needs
 wrapping-add-u32-requires : tie.Need-wrapping-add-u32-requires
 wrapping-add-u32-requires c κs = search needs
 
+enum-told-4 : tie.Need-enum-told-4
+enum-told-4 c = search needs
+
+wrapping-add-u32-requires-2 : tie.Need-wrapping-add-u32-requires-2
+wrapping-add-u32-requires-2 c κs = search needs
+
 returns : tie.Need-returns
 returns c = search needs
 
@@ -29,6 +35,9 @@ returns-2 c = search needs
 returns-3 : tie.Need-returns-3
 returns-3 c = c .wrapping-add-u32 .ensures ∙ ap (λ (e : Event). refusalsThen (c .before .before .before .args .refusals) (paper e)) (sym (c .before .enum-told3 .given .1))
 
+returns-4 : tie.Need-returns-4
+returns-4 c = c .wrapping-add-u322 .ensures ∙ ap (λ (e : Event). refusalsThen (c .before .before .before .args .refusals) (paper e)) (sym (c .before .enum-told4 .given .1))
+
 pub refusals-then-spec : {M : Type 1} → statement M
 refusals-then-spec =
     tie.close
@@ -37,6 +46,9 @@ refusals-then-spec =
     enum-told-2
     enum-told-3
     wrapping-add-u32-requires
+    enum-told-4
+    wrapping-add-u32-requires-2
     returns
     returns-2
-    returns-3)
+    returns-3
+    returns-4)

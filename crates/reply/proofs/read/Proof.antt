@@ -1,5 +1,5 @@
 -- 31, the gate, then the data.
-use mathlib.Core.Path.{sym, ap, _∙_, subst}
+use mathlib.Core.Path.{refl, sym, ap, _∙_, subst}
 use Prim.Native.Nat.{_-_}
 use borrow.Author.Tests.{not-true, not-false}
 use borrow.Author.Needs.{needs}
@@ -39,6 +39,12 @@ enum-known-entry c = search needs
 not-read-requires-2 : tie.Need-not-read-requires-2
 not-read-requires-2 c κs = search needs
 
+enum-known-entry-2 : tie.Need-enum-known-entry-2
+enum-known-entry-2 c = search needs
+
+not-read-at-requires : tie.Need-not-read-at-requires
+not-read-at-requires c κs = search needs
+
 enum-told : tie.Need-enum-told
 enum-told c = search needs
 
@@ -58,6 +64,17 @@ returns-2 c =
 
 returns-3 : tie.Need-returns-3
 returns-3 c =
+    let start = c .before .before .before .before .before .before .before .before .before in
+    let table = start .args .table in
+    let question = start .args .question in
+    let stretch = start .args .stretch .now in
+    let keeps-rule = c .before .before .before .before .before .before .before .keeps-rule in
+    let if1 = c .before .before .before .before .before .before .if1 in
+    let hear = c .before .before .before .before .before .hear in
+    subst (Reads (readReply (keeps table) (members table) question stretch) table) (sym (c .not-read-at .ensures)) (record { is = way (keeps table) (members table) question stretch (sym (keeps-rule .ensures) ∙ not-false (keeps-rule .result) (if1 .left)) (wordsOf (hear .result)) (hear .ensures) _ (sym (ap paper (c .before .before .entry2 .given .1)) ∙ c .before .before .before .before .gate .ensures); kept = (refl, refl) })
+
+returns-4 : tie.Need-returns-4
+returns-4 c =
     let start = c .before .before .before .before .before .before .before .before in
     let table = start .args .table in
     let keeps-rule = c .before .before .before .before .before .before .keeps-rule in
@@ -76,7 +93,10 @@ read-spec =
     gate-requires
     enum-known-entry
     not-read-requires-2
+    enum-known-entry-2
+    not-read-at-requires
     enum-told
     read-open-requires
     returns-2
-    returns-3)
+    returns-3
+    returns-4)

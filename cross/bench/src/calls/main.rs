@@ -7,7 +7,7 @@ use bench::table;
 use compare::records::linked_table;
 use frames::{Frames, Ours, Plain};
 use reference::seeded::Seeded;
-use reference::{Alarm, Answer, Event, Header, Module, Question, Receiver, Station};
+use reference::{Alarm, Answer, Event, Header, Module, Question, Receiver, Refusal, Station};
 use std::hint::black_box;
 use std::process::ExitCode;
 
@@ -65,14 +65,19 @@ fn event_word(event: &linked::Event) -> u64 {
         cid1: event.cid1,
         cid2: event.cid2,
     };
-    u64::from(event.number) << 56 | word(header, event.lenid)
+    u64::from(event.number) << 56 | u64::from(event.place) << 24 | word(header, event.lenid)
+}
+
+/// The number above the place.
+fn refusal_word(refusal: Refusal) -> u64 {
+    u64::from(refusal.number()) << 32 | refusal.place().unwrap_or(0) as u64
 }
 
 fn reference_word(event: Event) -> u64 {
     match event {
         Event::Nothing => 0,
         Event::Frame(frame) => word(frame.header, frame.lenid),
-        Event::Refused(number) => u64::from(number) << 56,
+        Event::Refused(refusal) => refusal_word(refusal) << 24,
     }
 }
 
@@ -88,7 +93,7 @@ fn judge_by_reference(stretches: &[Vec<u8>]) -> u64 {
     stretches.iter().fold(0, |sum, stretch| {
         let event = match reference::judge(black_box(stretch)) {
             Ok(frame) => Event::Frame(frame),
-            Err(number) => Event::Refused(number),
+            Err(refusal) => Event::Refused(refusal),
         };
         mixed(sum, reference_word(event))
     })
@@ -301,12 +306,12 @@ fn read_case(table: &[Module], answer: &[u8]) -> Case<'static> {
             Box::new(move || {
                 let reply = linked::read_reply(&mut ours, OUR_GROUP, black_box(&first));
                 let word = table_word(&ours, |m| (m.analog.remaining, m.analog.voltage));
-                mixed(u64::from(reply.number), word)
+                mixed(u64::from(reply.number) << 32 | u64::from(reply.place), word)
             }),
             Box::new(move || {
                 let read = reference::read_reply(&mut theirs, GROUP, black_box(&second));
                 let word = table_word(&theirs, |m| (m.analog.remaining, m.analog.voltage));
-                mixed(read.err().map_or(0, u64::from), word)
+                mixed(read.err().map_or(0, refusal_word), word)
             }),
         ],
     }

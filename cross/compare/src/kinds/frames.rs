@@ -10,6 +10,8 @@ use reference::seeded::Seeded;
 pub fn all(comparison: &mut Comparison, seeded: &mut Seeded, rounds: usize) -> Done {
     every_length_and_check(comparison)?;
     every_byte_in_every_place(comparison, seeded)?;
+    every_pair_of_bad_characters(comparison, seeded)?;
+    every_place_of_the_longest(comparison, seeded)?;
     every_count(comparison, seeded)?;
     seeded_stretches(comparison, seeded, rounds)?;
     every_info(comparison, seeded)?;
@@ -60,12 +62,54 @@ fn every_byte_in_every_place(comparison: &mut Comparison, seeded: &mut Seeded) -
     Ok(())
 }
 
-/// Every number of characters up to more than a frame has.
+/// One bad character and another behind it, at every two places: the first of them decides.
+fn every_pair_of_bad_characters(comparison: &mut Comparison, seeded: &mut Seeded) -> Done {
+    for length in [0, 1, 24, 25] {
+        let right = made::stretch([0x21, 0x02, 0x46, 0x00], &seeded.bytes(length));
+        for second in 1..right.len() {
+            for first in 0..second {
+                for pair in [b"aG", b"Ga", b"fc", b"\xFF\0"] {
+                    let mut changed = right.clone();
+                    changed[first] = pair[0];
+                    changed[second] = pair[1];
+                    judge(comparison, changed)?;
+                }
+            }
+        }
+    }
+    Ok(())
+}
+
+/// A bad character at every place of the longest stretch, and of one that is too long.
+fn every_place_of_the_longest(comparison: &mut Comparison, seeded: &mut Seeded) -> Done {
+    let right = made::stretch([0x21, 0x02, 0x46, 0x00], &seeded.bytes(2_047));
+    for place in 0..right.len() {
+        for bad in [seeded.pick(b"abcdef"), seeded.bad_character()] {
+            let mut changed = right.clone();
+            changed[place] = bad;
+            judge(comparison, changed.clone())?;
+            if place % 64 == 0 {
+                changed.push(b'0');
+                judge(comparison, changed)?;
+            }
+        }
+    }
+    Ok(())
+}
+
+/// Every number of characters up to more than a frame has, the last one bad too.
 fn every_count(comparison: &mut Comparison, seeded: &mut Seeded) -> Done {
     for count in 0..4_130 {
         let characters = seeded.characters(count);
         if count >= 16 {
             judge(comparison, made::sealed_with_length(&characters))?;
+        }
+        for bad in [b'b', b'G'] {
+            let mut bad_at_the_end = characters.clone();
+            if let Some(last) = bad_at_the_end.last_mut() {
+                *last = bad;
+            }
+            judge(comparison, bad_at_the_end)?;
         }
         judge(comparison, characters)?;
     }

@@ -4,12 +4,14 @@ use crate::case::{Case, Returned};
 use crate::difference::{Comparison, Done};
 use crate::made;
 use linked::{Listing, Receiver, CLOSING, LISTING, STORE};
+use reference::frame::CR;
 use reference::listing::MOST_BYTES;
 use reference::seeded::Seeded;
 
 /// All.
 pub fn all(comparison: &mut Comparison, seeded: &mut Seeded, rounds: usize) -> Done {
     comparison.call(&Case::ListingNew)?;
+    every_bad_character(comparison, seeded)?;
     seeded_streams(comparison, seeded, rounds)?;
     seeded_states(comparison, seeded, rounds)?;
     every_buffer_of_totals(comparison, seeded)
@@ -44,6 +46,31 @@ pub fn stream(comparison: &mut Comparison, stream: &[u8], cuts: &[usize]) -> Don
         text.extend(&outcome.bytes[..written.length]);
     }
     assert!(text == reference::listing(stream), "a stream's listing");
+    Ok(())
+}
+
+/// Frames with a bad character at every place, some with another behind it, and a good frame behind.
+fn every_bad_character(comparison: &mut Comparison, seeded: &mut Seeded) -> Done {
+    for info in [0, 1, 24, 2_047] {
+        let right = seeded.frame(info);
+        let behind = seeded.frame(3);
+        // Of the longest only places with one to four digits, and the last.
+        let last = right.len() - 2;
+        let longest = [1, 10, 11, 100, 101, 1_000, 1_001, last];
+        let places: Vec<usize> = match info {
+            2_047 => longest.to_vec(),
+            _ => (1..=last).collect(),
+        };
+        for place in places {
+            for bad in made::BAD {
+                let mut frame = right.clone();
+                frame[place + seeded.below(last + 1 - place)] = seeded.bad_character();
+                frame[place] = bad;
+                let cut = seeded.below(frame.len());
+                stream(comparison, &[&frame[..], &behind].concat(), &[cut])?;
+            }
+        }
+    }
     Ok(())
 }
 
@@ -101,10 +128,19 @@ fn seeded_states(comparison: &mut Comparison, seeded: &mut Seeded, rounds: usize
         let mut store = made::buffer(seeded, length);
         let characters = seeded.characters(80.min(length));
         store[..characters.len()].copy_from_slice(&characters);
+        let mut piece = seeded.stream(parts);
+        // A CR closes what the store holds, with a bad character or two in it.
+        if length > 0 && seeded.once_in(4) {
+            piece.insert(0, CR);
+            for _ in 0..seeded.below(3) {
+                let place = seeded.below(80.min(length));
+                store[place] = seeded.bad_character();
+            }
+        }
         comparison.call(&Case::List {
             listing,
             store,
-            piece: seeded.stream(parts),
+            piece,
             out: made::buffer(seeded, room),
         })?;
     }

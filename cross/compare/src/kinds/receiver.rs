@@ -12,6 +12,7 @@ use reference::seeded::Seeded;
 pub fn all(comparison: &mut Comparison, seeded: &mut Seeded, rounds: usize) -> Done {
     comparison.call(&Case::ReceiverNew)?;
     every_state(comparison, seeded)?;
+    every_bad_character(comparison, seeded)?;
     seeded_states(comparison, seeded, rounds)?;
     seeded_streams(comparison, seeded, rounds)
 }
@@ -133,6 +134,41 @@ fn every_state(comparison: &mut Comparison, seeded: &mut Seeded) -> Done {
     Ok(())
 }
 
+/// A bad character at every place: of a stretch that the store holds and CR closes, and of one that a
+/// run takes whole. Behind it, or behind what is judged, may stand another.
+fn every_bad_character(comparison: &mut Comparison, seeded: &mut Seeded) -> Done {
+    for info in [0, 1, 24, 2_047] {
+        let right = store(seeded, STORE, info);
+        let count = 16 + 2 * info;
+        let receiver = Receiver { open: 1, count };
+        for place in 0..count {
+            let tried = if count == STORE { 1 } else { made::BAD.len() };
+            for bad in made::BAD.into_iter().cycle().skip(7 * place).take(tried) {
+                let mut store = right.clone();
+                store[place + seeded.below(STORE - place)] = seeded.bad_character();
+                store[place] = bad;
+                comparison.call(&Case::Step {
+                    receiver,
+                    store: store.clone(),
+                    byte: CR,
+                })?;
+                let piece = [&[SOI][..], &store[..count], &[CR]].concat();
+                comparison.call(&Case::Run {
+                    receiver,
+                    store: store.clone(),
+                    piece: vec![CR],
+                })?;
+                comparison.call(&Case::Run {
+                    receiver: linked::receiver_new(),
+                    store,
+                    piece,
+                })?;
+            }
+        }
+    }
+    Ok(())
+}
+
 /// A frame that the store holds already and CR closes, right or damaged; and pieces from any state.
 fn seeded_states(comparison: &mut Comparison, seeded: &mut Seeded, rounds: usize) -> Done {
     for _ in 0..20_000 * rounds {
@@ -152,7 +188,7 @@ fn seeded_states(comparison: &mut Comparison, seeded: &mut Seeded, rounds: usize
             }
             1 if room > 0 => {
                 let place = seeded.below(room.min(16 + 2 * info));
-                store[place] = seeded.pick(b"0123456789ABCDEFa~\r");
+                store[place] = seeded.pick(&made::CHARACTERS);
             }
             _ => {}
         }
@@ -199,7 +235,7 @@ fn seeded_streams(comparison: &mut Comparison, seeded: &mut Seeded, rounds: usiz
     // Few kinds of bytes, so that tildes and CRs meet in every way.
     for _ in 0..1_500 * rounds {
         let length = seeded.below(60);
-        let few = [SOI, CR, b'0', b'0', b'0', b'0', b'F', b'g'];
+        let few = [SOI, CR, b'0', b'0', b'0', b'0', b'F', b'a', b'g'];
         let whole: Vec<u8> = (0..length).map(|_| seeded.pick(&few)).collect();
         let cuts: Vec<usize> = (0..length).map(|_| seeded.below(5)).collect();
         by_run(comparison, &whole, &cuts)?;

@@ -3,15 +3,13 @@
 use crate::case::Case;
 use crate::difference::{Comparison, Done};
 use crate::kinds::writers::CAPACITIES;
-use crate::made;
+use crate::made::{self, CHARACTERS};
 use crate::records::linked_table;
 use linked::Question;
 use reference::seeded::Seeded;
 use reference::Module;
 
 const COMMANDS: [u8; 8] = [0x42, 0x44, 0x4F, 0x51, 0x92, 0x93, 0x95, 0x96];
-/// The digits, and characters that are none: next to the digits, lower case, SOI and CR.
-const CHARACTERS: [u8; 26] = *b"0123456789ABCDEFaf~\r/:@G\0\xFF";
 /// Bytes around each bound that a byte of INFO has.
 const BYTES: [u8; 18] = [
     0x00, 0x01, 0x02, 0x03, 0x04, 0x05, 0x08, 0x09, 0x10, 0x11, 0x7F, 0x80, 0xEF, 0xF0, 0xF1, 0xFD,
@@ -133,8 +131,8 @@ fn every_head(comparison: &mut Comparison, seeded: &mut Seeded) -> Done {
     Ok(())
 }
 
-/// One reply with each character changed, CHKSUM as it was and made right; with each byte of INFO
-/// changed, and one more or less there; and with INFO cut at each length.
+/// One reply with each character changed, CHKSUM as it was and made right; with a second bad one; with
+/// each byte of INFO changed, and one more or less there; and with INFO cut at each length.
 fn every_place(comparison: &mut Comparison, seeded: &mut Seeded, cid2: u8, group: bool) -> Done {
     let table = full(seeded);
     let question = Question {
@@ -151,6 +149,12 @@ fn every_place(comparison: &mut Comparison, seeded: &mut Seeded, cid2: u8, group
             changed[place] = character;
             read(comparison, &table, question, made::sealed(&changed))?;
             read(comparison, &table, question, changed)?;
+        }
+        for first in [b'c', b'G'] {
+            let mut twice = right.clone();
+            twice[seeded.below(right.len())] = seeded.bad_character();
+            twice[place] = first;
+            read(comparison, &table, question, twice)?;
         }
     }
     let Some((header, info)) = made::opened(&right) else {
@@ -319,12 +323,12 @@ fn long_replies(comparison: &mut Comparison, seeded: &mut Seeded) -> Done {
             let question = Question { adr, cid2, command };
             let mut stretch = made::stretch([0x20, adr, 0x46, 0x00], &[command; 2_047]);
             stretch.resize(length, b'0');
-            read(
-                comparison,
-                &table,
-                question,
-                made::sealed_with_length(&stretch),
-            )?;
+            let mut right = made::sealed_with_length(&stretch);
+            read(comparison, &table, question, right.clone())?;
+            for bad in [0xFF, b'f'] {
+                right[length - 1] = bad;
+                read(comparison, &table, question, right.clone())?;
+            }
         }
     }
     Ok(())

@@ -95,7 +95,7 @@ fn every_place(comparison: &mut Comparison, seeded: &mut Seeded) -> Done {
             };
             let right = made::stretch([VER, adr, 0x46, cid2], &info);
             for place in 0..right.len() {
-                for character in *b"0123456789ABCDEFaf~\r/:@G\0\xFF" {
+                for character in made::CHARACTERS {
                     let mut changed = right.clone();
                     changed[place] = character;
                     ask(comparison, seeded, &table, made::sealed(&changed))?;
@@ -117,7 +117,7 @@ fn long_stretches(comparison: &mut Comparison, seeded: &mut Seeded) -> Done {
         let table = with_master(seeded);
         let adr = table[0].adr;
         let right = made::stretch([VER, adr, 0x46, 0x42], &[adr; 2_047]);
-        for fill in *b"0Fz" {
+        for fill in *b"0Faz" {
             let mut stretch = right.clone();
             stretch.resize(length, fill);
             ask(comparison, seeded, &table, stretch.clone())?;

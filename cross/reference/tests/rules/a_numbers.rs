@@ -2,6 +2,7 @@
 
 use crate::common::*;
 use reference::frame::chksum;
+use reference::Refusal::Plain;
 use reference::{judge, tenths_celsius, Event};
 
 /// The reply at the end of V3.3, restored from the table below it (PROTOCOL 12.9), without CHKSUM.
@@ -48,7 +49,7 @@ fn a1_worked_example() {
     assert_eq!(characters.len(), 12 + 122);
     assert_eq!(chksum(&characters), 0xE27A);
     let as_printed = [&characters[..], b"E1A2"].concat();
-    assert_eq!(judge(&as_printed), Err(8));
+    assert_eq!(judge(&as_printed), Err(Plain(8)));
     let right = [&characters[..], b"E27A"].concat();
     let mut table = stack(&[0x02]);
     let reply = read(&mut table, (0x02, 0x42, 0x02), &right).unwrap();
@@ -79,9 +80,9 @@ fn a1_worked_example() {
 
 #[test]
 fn a2_odd_lenid_of_the_printed_line() {
-    assert_eq!(judge(b"1203400456ABCEFEFC71"), Err(6));
-    assert_eq!(judge(b"1203400456ABCEFEFC72"), Err(6));
-    assert_eq!(judge(b"1203400456ABCDFEFC72"), Err(6));
+    assert_eq!(judge(b"1203400456ABCEFEFC71"), Err(Plain(6)));
+    assert_eq!(judge(b"1203400456ABCEFEFC72"), Err(Plain(6)));
+    assert_eq!(judge(b"1203400456ABCDFEFC72"), Err(Plain(6)));
 }
 
 /// Whether some byte in the place of one character lets a frame out of any part of the stretch.

@@ -2,7 +2,7 @@
 
 use reference::{
     answer, hex, read_reply, run, write_frame, Alarm, Analog, Answer, Event, Header, Limits,
-    Module, Number, Question, Ran, Receiver, Reply, Station,
+    Module, Number, Question, Ran, Receiver, Refusal, Reply, Station,
 };
 
 /// A frame from SOI to CR.
@@ -128,12 +128,17 @@ pub fn code(table: &mut [Module], stretch: &[u8]) -> Option<u8> {
     Some(judged.header.cid2)
 }
 
+/// Reads a reply and says the number of a refusal.
+pub fn read(table: &mut [Module], asked: (u8, u8, u8), stretch: &[u8]) -> Result<Reply, Number> {
+    read_or_refuse(table, asked, stretch).map_err(Refusal::number)
+}
+
 /// Reads a reply; a refusal must leave the table as it was.
-pub fn read(
+pub fn read_or_refuse(
     table: &mut [Module],
     (adr, cid2, command): (u8, u8, u8),
     stretch: &[u8],
-) -> Result<Reply, Number> {
+) -> Result<Reply, Refusal> {
     let before = table.to_vec();
     let question = Question { adr, cid2, command };
     let result = read_reply(table, question, stretch);
@@ -181,7 +186,7 @@ pub fn events(stream: &[u8]) -> (Vec<Event>, Receiver) {
 /// The refusals among the events of a stream, 0 standing for a frame.
 pub fn numbers(stream: &[u8]) -> Vec<Number> {
     let number = |event: &Event| match event {
-        Event::Refused(number) => *number,
+        Event::Refused(refusal) => refusal.number(),
         _ => 0,
     };
     events(stream).0.iter().map(number).collect()

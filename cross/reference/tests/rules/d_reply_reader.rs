@@ -1,6 +1,7 @@
 //! Readings D: the reply reader.
 
 use crate::common::*;
+use reference::Refusal::{LowerCase, NoHexDigit, Plain};
 use reference::{Alarm, Analog, Limits, Module, Reply};
 
 /// INFO of 42H for one module of the stack, flag 00H.
@@ -75,7 +76,8 @@ fn d1_order() {
     let asked = (0x03, 0x42, 0x03);
     assert_eq!(read(&mut table, asked, &long), Err(1));
     assert_eq!(read(&mut table, asked, b"21"), Err(3));
-    assert_eq!(read(&mut table, asked, b"2102464FE002G2FD32"), Err(4));
+    assert_eq!(read(&mut table, asked, b"2102464FE002a2FD32"), Err(4));
+    assert_eq!(read(&mut table, asked, b"2102464FE002G2FD32"), Err(9));
     assert_eq!(read(&mut table, asked, b"2102464FE00302FD32"), Err(5));
     assert_eq!(read(&mut table, asked, b"2102464FD00302FD32"), Err(6));
     assert_eq!(read(&mut table, asked, b"2102464FC00402FD32"), Err(7));
@@ -504,12 +506,43 @@ fn d15_tilde_or_cr_inside() {
     for byte in [0x7E, 0x0D] {
         let mut bad = good.clone();
         bad[20] = byte;
-        assert_eq!(read(&mut table, (0x02, 0x42, 0x02), &bad), Err(4));
+        assert_eq!(
+            read_or_refuse(&mut table, (0x02, 0x42, 0x02), &bad),
+            Err(NoHexDigit(20))
+        );
     }
     for byte in [b'0', 0x7E, 0x0D, 0xFF] {
         let long = vec![byte; 4_111];
         assert_eq!(read(&mut table, (0x02, 0x42, 0x02), &long), Err(1));
     }
+}
+
+#[test]
+fn d15_the_place_is_handed_on() {
+    let mut table = stack(&[0x02]);
+    let asked = (0x02, 0x42, 0x02);
+    let good = say(0x02, 0x00, &analog_info(0x02));
+    for place in [0, 1, 11, 12, good.len() - 1] {
+        for (byte, refusal) in [(b'c', LowerCase(place)), (0x00, NoHexDigit(place))] {
+            let mut bad = good.clone();
+            bad[place] = byte;
+            // What is behind the first bad one does not count.
+            if place < 12 {
+                bad[12] = b'c' ^ byte;
+            }
+            assert_eq!(read_or_refuse(&mut table, asked, &bad), Err(refusal));
+            assert_eq!(read_or_refuse(&mut table, asked, &bad[..15]), Err(Plain(3)));
+            bad.resize(4_111, b'0');
+            assert_eq!(read_or_refuse(&mut table, asked, &bad), Err(Plain(1)));
+        }
+    }
+    // What comes before the stretch is judged comes before.
+    let bad = b"2102460080260002010d45010BAA00000D45FDE802FDE80007F578";
+    assert_eq!(
+        read_or_refuse(&mut table, (0x03, 0x42, 0x03), bad),
+        Err(Plain(23))
+    );
+    assert_eq!(read_or_refuse(&mut table, asked, bad), Err(LowerCase(19)));
 }
 
 #[test]

@@ -58,11 +58,14 @@ fn e2_silence_for_who_is_not_there() {
 fn e3_silence_is_an_answer_of_its_own() {
     let mut table = stack(&[0x02]);
     let question = ask(0x02, 0x4F, &[]);
-    let mut not_hex = question.clone();
-    not_hex[0] = b'a';
+    let mut lower_case = question.clone();
+    lower_case[0] = b'a';
+    let mut no_hex_digit = question.clone();
+    no_hex_digit[0] = b'G';
     for stretch in [
         &question[..15],
-        &not_hex,
+        &lower_case,
+        &no_hex_digit,
         &[b'0'; 4_111],
         &ask(0x03, 0x4F, &[]),
     ] {
@@ -70,6 +73,19 @@ fn e3_silence_is_an_answer_of_its_own() {
     }
     assert_eq!(code(&mut table, &question), Some(0x00));
     assert_eq!(table, stack(&[0x02]));
+}
+
+#[test]
+fn e3_silence_for_every_bad_character() {
+    let mut table = stack(&[0x02]);
+    let question = ask(0x02, 0x42, &[0x02]);
+    for place in 0..question.len() {
+        for bad in [b'a', b'f', b'g', b'G', b'@', b'/', 0x7E, 0x0D, 0x00, 0xFF] {
+            let mut changed = question.clone();
+            changed[place] = bad;
+            assert_eq!(code(&mut table, &changed), None, "{place} {bad}");
+        }
+    }
 }
 
 #[test]

@@ -23,6 +23,28 @@ fn f1_at_of_a_refusal() {
 }
 
 #[test]
+fn f1_place_of_4_and_9() {
+    assert_eq!(
+        text(b"~21024642E00202fd32\r~12g\r~21024642E0020\xFFFD32\r"),
+        "at=0\nrefused=4\nplace=14\nat=20\nrefused=3\nat=25\nrefused=9\nplace=13\n\
+         frames=0\nrefusals=3\n"
+    );
+    let mut long = vec![b'0'; 4_111];
+    long[0] = 0x7E;
+    long[4_110] = b'f';
+    long.push(0x0D);
+    assert_eq!(
+        text(&long),
+        "at=0\nrefused=4\nplace=4109\nframes=0\nrefusals=1\n"
+    );
+    long[1] = b'G';
+    assert_eq!(
+        text(&long),
+        "at=0\nrefused=9\nplace=0\nframes=0\nrefusals=1\n"
+    );
+}
+
+#[test]
 fn f2_the_others_are_hex() {
     let long = frame(0xAB, 0x0C, 0xFF, 0x00, &[0x5E; 2_047]);
     let expected = format!(

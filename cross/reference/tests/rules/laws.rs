@@ -6,7 +6,7 @@ use reference::frame::{info, MOST_CHARACTERS};
 use reference::seeded::Seeded;
 use reference::{
     answer, judge, listing, read_reply, rule, run, step, write_frame, Answer, Event, Module,
-    Question, Receiver, Station,
+    Question, Receiver, Refusal, Station,
 };
 
 /// The listing by looking at the whole stream: each tilde opens a stretch that reaches to the next
@@ -22,10 +22,7 @@ fn listing_by_stretches(stream: &[u8]) -> Vec<u8> {
             _ if held > MOST_CHARACTERS => 1,
             None => continue,
             Some(0x7E) => 2,
-            Some(_) => match judge(&rest[..held]) {
-                Ok(_) => 0,
-                Err(number) => number,
-            },
+            Some(_) => judge(&rest[..held]).map_or_else(Refusal::number, |_| 0),
         };
         if number == 0 {
             let c = String::from_utf8(rest[..held].to_vec()).unwrap();
@@ -39,6 +36,13 @@ fn listing_by_stretches(stream: &[u8]) -> Vec<u8> {
             frames += 1;
         } else {
             text += &format!("at={at}\nrefused={number}\n");
+            if number == 4 || number == 9 {
+                let hex = |c: &u8| c.is_ascii_digit() || (b'A'..=b'F').contains(c);
+                let place = rest.iter().take_while(|c| hex(c)).count();
+                text += &format!("place={place}\n");
+                let lower = (b'a'..=b'f').contains(&stream[at + 1 + place]);
+                assert_eq!(number == 4, lower);
+            }
             refusals += 1;
         }
     }
@@ -56,7 +60,7 @@ fn listing_is_that_of_the_stretches() {
     }
     for _ in 0..2_000 {
         let length = seeded.below(200);
-        let few = [0x7E, 0x0D, b'0', b'0', b'0', b'0', b'F', b'g'];
+        let few = [0x7E, 0x0D, b'0', b'0', b'0', b'0', b'F', b'a', b'g'];
         let stream: Vec<u8> = (0..length).map(|_| seeded.pick(&few)).collect();
         assert_eq!(listing(&stream), listing_by_stretches(&stream));
     }
@@ -136,7 +140,7 @@ fn step_from_any_state() {
         let stores =
             matches!((receiver, next), (Receiver::Open(a), Receiver::Open(b)) if b == a + 1);
         assert_eq!(stored, usize::from(stores));
-        let refused_call = matches!(event, Event::Refused(32 | 35));
+        let refused_call = matches!(event, Event::Refused(Refusal::Plain(32 | 35)));
         assert!(!refused_call || next == receiver);
     }
 }
@@ -234,8 +238,8 @@ fn what_the_stand_in_answers_is_read() {
         let code = judge(&out[1..length - 1]).unwrap().header.cid2;
         let reply = match result {
             Ok(reply) => reply,
-            Err(number) => {
-                assert_eq!(number, 34);
+            Err(refusal) => {
+                assert_eq!(refusal, Refusal::Plain(34));
                 assert!(
                     matches!(code, 0x04 | 0x06 | 0x90),
                     "{question:?} {code:02X}"

@@ -2,6 +2,7 @@
 
 use crate::common::*;
 use reference::frame::{chksum, length};
+use reference::Refusal::{LowerCase, NoHexDigit, Plain};
 use reference::{judge, listing, milliamps, tenths_celsius, Header};
 
 #[test]
@@ -42,8 +43,9 @@ fn analog_question_to_adr_02() {
     );
     assert_eq!(judged.lenid, 2);
     assert_eq!(frame(0x21, 0x02, 0x46, 0x42, &[0x02]), question);
-    assert_eq!(judge(b"21024642E00202FD33"), Err(8));
-    assert_eq!(judge(b"21024642E00202fd32"), Err(4));
+    assert_eq!(judge(b"21024642E00202FD33"), Err(Plain(8)));
+    assert_eq!(judge(b"21024642E00202fd32"), Err(LowerCase(14)));
+    assert_eq!(judge(b"21024642E00202Gd32"), Err(NoHexDigit(14)));
 }
 
 #[test]
@@ -55,8 +57,8 @@ fn code_04_from_adr_02() {
 
 #[test]
 fn a_character_lost_and_one_doubled() {
-    assert_eq!(judge(b"002464F0000FD98"), Err(3));
-    assert_eq!(judge(b"2002464FF0000FD98"), Err(5));
+    assert_eq!(judge(b"002464F0000FD98"), Err(Plain(3)));
+    assert_eq!(judge(b"2002464FF0000FD98"), Err(Plain(5)));
 }
 
 #[test]

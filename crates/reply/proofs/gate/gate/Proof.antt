@@ -25,6 +25,9 @@ returns-2 c = simp (← c .before .before .before .is-asked .ensures, c .before 
 enum-known-judged : tie.Need-enum-known-judged
 enum-known-judged c = search needs
 
+enum-known-judged-2 : tie.Need-enum-known-judged-2
+enum-known-judged-2 c = search needs
+
 enum-told : tie.Need-enum-told
 enum-told c = search needs
 
@@ -45,6 +48,14 @@ returns-4 c =
     let start = c .before .before .before .before .before .before .before in
     let is-asked = c .before .before .before .before .before .before .is-asked in
     let if1 = c .before .before .before .before .before .if1 in
+    sym (ap (λ (j : Judged). judgedFirst (paperJudged j) (frameGate (start .args .question) (wordsOf (start .args .heard)))) (c .before .judged2 .given .1)) ∙ sym (simp (← is-asked .ensures, if1 .left, ← c .before .before .before .before .has-member .ensures, c .before .before .before .if2 .left))
+
+returns-5 : tie.Need-returns-5
+unfolding gate
+returns-5 c =
+    let start = c .before .before .before .before .before .before .before in
+    let is-asked = c .before .before .before .before .before .before .is-asked in
+    let if1 = c .before .before .before .before .before .if1 in
     c .gate-frame .ensures ∙ sym (ap (λ (j : Judged). judgedFirst (paperJudged j) (frameGate (start .args .question) (wordsOf (start .args .heard)))) (c .before .enum-told .given .1)) ∙ sym (simp (← is-asked .ensures, if1 .left, ← c .before .before .before .before .has-member .ensures, c .before .before .before .if2 .left))
 
 pub gate-spec : {M : Type 1} → statement M
@@ -56,7 +67,9 @@ gate-spec =
     has-member-requires
     returns-2
     enum-known-judged
+    enum-known-judged-2
     enum-told
     gate-frame-requires
     returns-3
-    returns-4)
+    returns-4
+    returns-5)
