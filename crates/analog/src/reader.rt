@@ -1,12 +1,10 @@
 // The reader of a 42H record at a place of INFO. Counts are read with the record and go with it; on a refusal every field is 0.
 
 ghost use mathlib.Core.Path.{_≡_};
-ghost use lib.ListN.{length};
 ghost use Rattle.hex.specs.Hex.{unhexes};
-ghost use Rattle.codec.specs.Numbers.{signed};
 ghost use Rattle.codec.specs.Reading.{reads};
 ghost use Rattle.record.specs.Analog.{measured, analog};
-ghost use Rattle.parts.specs.Readings.{paper, Fills};
+ghost use Rattle.parts.specs.Readings.{paper};
 ghost use Rattle.record.specs.Nothing.{noList, noAnalog};
 use fields::Next;
 use parts::reading::Reading;
@@ -16,23 +14,6 @@ use refusal::Refusal;
 pub struct AnalogRead {
     pub reading: Reading,
     pub analog: Analog,
-}
-
-// As many signed words as the list has places.
-fn fill_signed(info: &[u8], from: usize, list: &mut [i16]) -> Reading
-    ensures { λ r. ⌜ Fills signed (unhexes (now (info .entry))) from (length (now (list .entry))) r (now (list .exit)) ⌝ }
-{
-    let mut at = from;
-    let mut i: usize = 0;
-    while i < list.len() {
-        let Next::Field(word, next) = fields::field(info, at, 2) else {
-            return Reading::Refused(Refusal::InfoEnds);
-        };
-        list[i] = record::signed(word);
-        at = next;
-        i += 1;
-    }
-    Reading::Read(at)
 }
 
 struct Cells {
@@ -67,7 +48,7 @@ fn read_cells(info: &[u8], at: usize) -> Cells
     }
     let m = count as usize;
     let mut cells = [0i16; 16];
-    let filled = fill_signed(info, at1, &mut cells[..m]);
+    let filled = parts::reading::fill_signed(info, at1, &mut cells[..m]);
     match filled {
         Reading::Refused(why) => no_cells(why),
         Reading::Read(next) => Cells {
@@ -110,7 +91,7 @@ fn read_temperatures(info: &[u8], at: usize) -> Temperatures
     }
     let n = count as usize;
     let mut temperatures = [0i16; 8];
-    let filled = fill_signed(info, at1, &mut temperatures[..n]);
+    let filled = parts::reading::fill_signed(info, at1, &mut temperatures[..n]);
     match filled {
         Reading::Refused(why) => no_temperatures(why),
         Reading::Read(next) => Temperatures {

@@ -6,8 +6,7 @@ ghost use Prim.Native.Nat.{_<_, _≤_};
 ghost use lib.ListN.{length};
 ghost use Rattle.buffer.specs.Put.{Room, Put};
 ghost use Rattle.buffer.specs.Writing.{Writes};
-ghost use Rattle.codec.specs.Numbers.{signed, three};
-ghost use Rattle.codec.specs.Row.{row-put};
+ghost use Rattle.codec.specs.Numbers.{three};
 ghost use Rattle.codec.specs.Counted.{every};
 ghost use Rattle.record.specs.Zeros.{is0};
 ghost use Rattle.record.specs.Capacities.{capacities, capacitiesFine};
@@ -77,20 +76,6 @@ pub fn fine_analog(analog: Analog) -> bool
 
 // ---- putting it
 
-// Signed numbers one after the other.
-fn put_row(out: &mut [u8], at: usize, list: &[i16]) -> usize
-    requires { ⌜ Room (now out) at (row-put signed (now list)) ⌝ }
-    ensures { λ r. ⌜ Put (now (out .entry)) at (row-put signed (now (list .entry))) (now (out .exit)) r ⌝ }
-{
-    let mut next = at;
-    let mut i: usize = 0;
-    while i < list.len() {
-        next = parts::writing::put_signed(out, next, list[i]);
-        i += 1;
-    }
-    next
-}
-
 // A count, and as many values of the list.
 fn put_list(out: &mut [u8], at: usize, count: u8, list: &[i16]) -> usize
     requires { ⌜ (count ≤ length (now list)) × Room (now out) at (listText count (now list)) ⌝ }
@@ -98,7 +83,7 @@ fn put_list(out: &mut [u8], at: usize, count: u8, list: &[i16]) -> usize
 {
     let next = buffer::put(out, at, count);
     let n = count as usize;
-    put_row(out, next, &list[..n])
+    parts::writing::put_all_signed(out, next, &list[..n])
 }
 
 // A capacity of three bytes.

@@ -20,14 +20,14 @@ put-requires c κs =
     let r0 = start .pre .1 in
     room-first (count ∷ []) (row-put signed (take count (start .args .list .now))) r0
 
-slice-aggregate-put-row : tie.Need-slice-aggregate-put-row
-slice-aggregate-put-row c =
+slice-aggregate-put-all-signed : tie.Need-slice-aggregate-put-all-signed
+slice-aggregate-put-all-signed c =
     let start = c .before .before .before .before .before .before .before in
     sym (length-take-le (start .args .count) (start .args .list .now) (start .pre .0))
 
-put-row-requires : tie.Need-put-row-requires
+put-all-signed-requires : tie.Need-put-all-signed-requires
 unfolding listText
-put-row-requires c κs =
+put-all-signed-requires c κs =
     let start = c .before .before .before .before .before .before .before in
     let count = start .args .count in
     let list = start .args .list .now in
@@ -50,9 +50,9 @@ returns c =
     let r0 = start .pre .1 in
     let f0 = room-first (count ∷ []) (row-put signed (take count list)) r0 in
     let p0 = put .ensures in
-    let p1 = c .before .before .put-row .ensures in
+    let p1 = c .before .before .put-all-signed .ensures in
     (put-then f0 p0 p1)
 
 pub put-list-spec : {M : Type 1} → statement M
 put-list-spec =
-    tie.close (tie.spec put-requires slice-aggregate-put-row put-row-requires same-length returns)
+    tie.close (tie.spec put-requires slice-aggregate-put-all-signed put-all-signed-requires same-length returns)

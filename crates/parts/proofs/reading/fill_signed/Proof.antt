@@ -9,13 +9,13 @@ use borrow.Author.Needs.{needs}
 use mir.Facts.{toZ-ofZ}
 use mir.Syntax.{w16}
 use Rattle.codec.specs.Numbers.{word, signed}
 use Rattle.parts.proofs.reading.Steps.{field-went, field-ended}
 use Rattle.codec.proofs.Rows.{Filled, filled-none, filled-more, filled-stop, filled-all}
 use Rattle.codec.specs.Codec.{got}
 use Rattle.hex.proofs.Laws.{bytes-unhexes}
 use Rattle.hex.specs.Hex.{unhexes}
-use Rattle.analog.proofs.reader.fill_signed.Statement.{statement}
-use Rattle.analog.proofs.reader.fill_signed.Tie as tie
+use Rattle.parts.proofs.reading.fill_signed.Statement.{statement}
+use Rattle.parts.proofs.reading.fill_signed.Tie as tie
 
 abbrev Inv-loop : tie.InvT-loop
 Inv-loop info from list₀ at₀ i₀ list at i = Filled signed (unhexes info) from (length list₀) list i at

@@ -15,8 +15,8 @@ use Rattle.codec.specs.Row.{row-put}
 use Rattle.codec.specs.Numbers.{signed}
 use Rattle.buffer.proofs.Puts.{put-none}
 use Rattle.buffer.specs.Put.{Put}
-use Rattle.analog.proofs.writer.put_row.Statement.{statement}
-use Rattle.analog.proofs.writer.put_row.Tie as tie
+use Rattle.parts.proofs.writing.put_all_signed.Statement.{statement}
+use Rattle.parts.proofs.writing.put_all_signed.Tie as tie
 
 abbrev Inv-loop : tie.InvT-loop
 Inv-loop out₀ at list next₀ i₀ out next i = (length out ≡ length out₀) × (i ≤ length list) × Put out₀ at (row-put signed (take i list)) out next
@@ -67,8 +67,8 @@ returns c =
     let e : take (c .before .loop .i) list ≡ list = ap (λ (k : ℕ). take k list) i ∙ take-length list in
     subst (λ (s : List ℤ). Put (start .args .out .now) (start .args .at) (row-put signed s) (c .before .loop .out) (c .before .loop .next)) e (c .before .loop .inv .2)
 
-pub put-row-spec : {M : Type 1} → statement M
-put-row-spec =
+pub put-all-signed-spec : {M : Type 1} → statement M
+put-all-signed-spec =
     tie.close
     (tie.spec
     Inv-loop
