@@ -24,7 +24,8 @@
  *   INFO       what a question or a reply carries, 0 to 2,047 bytes.
  *   CHKSUM     the check over all characters before it.
  *   Command    the byte of INFO that says whose data: ADR, or FFH at the master for the whole group (42H and 44H only).
- *   flag       the first byte of INFO of a reply to 42H and 44H.  Bit 4: an unread change of a switching value, bit 0: of an alarm.
+ *   flag       the first byte of INFO of a reply to 42H, 44H and 47H.  Bit 4: an unread change of a switching value, bit 0: of an
+ *              alarm.
  *   table      1 to 12 records in rising ADR, all of one group m.  A member is a module with a record; it is on or off.
  *
  * Each function is proved to meet its contract, for every call that keeps the caller's duties:
@@ -37,8 +38,8 @@
  *      unspecified after a store: never compare two records by memcmp.
  * There is no other duty: every value of every field is a legal argument, a bad one gets a refusal's number.
  * No function allocates, blocks, keeps a pointer after it returns or has state of its own.  Of libc they call memcpy, memmove and
- * memset.  Measured, not proved: hanuzak_answer and hanuzak_read_reply take 17 KB of stack, the group writers 7, every other at
- * most 4.
+ * memset.  Measured, not proved: hanuzak_answer and hanuzak_read_reply take 22 KB of stack, the group writers 11, every other at
+ * most 7.
  *
  * Where a field has no value it is 0.  With a refusal every lent buffer and the table stay as they were, unless said otherwise.
  * Not proved, as it is C: hanuzak_refusal and the constants of this header.
@@ -53,9 +54,9 @@
 extern "C" {
 #endif
 
-#define HANUZAK_VERSION "0.2.0" /* of this interface: MAJOR.MINOR.PATCH */
+#define HANUZAK_VERSION "0.3.0" /* of this interface: MAJOR.MINOR.PATCH */
 #define HANUZAK_VERSION_MAJOR 0
-#define HANUZAK_VERSION_MINOR 2
+#define HANUZAK_VERSION_MINOR 3
 #define HANUZAK_VERSION_PATCH 0
 
 /* ---- sizes */
@@ -138,17 +139,18 @@ static inline const char *hanuzak_refusal(uint32_t number)
 
 /* ---- commands and return codes (PROTOCOL 6.1, 6.5) */
 
-#define HANUZAK_CID1 0x46     /* battery data: CID1 of every question and reply */
-#define HANUZAK_GROUP 0xFF    /* Command for the whole group, at the master with 42H and 44H */
+#define HANUZAK_CID1 0x46       /* battery data: CID1 of every question and reply */
+#define HANUZAK_GROUP 0xFF      /* Command for the whole group, at the master with 42H and 44H */
 
-#define HANUZAK_ANALOG 0x42   /* cells, temperatures, current, voltage, capacities, cycles */
-#define HANUZAK_ALARM 0x44    /* alarm codes and status */
-#define HANUZAK_PROTOCOL 0x4F /* the protocol's version: VER of the reply.  No Command */
-#define HANUZAK_MAKER 0x51    /* name, software version, manufacturer.  No Command */
-#define HANUZAK_LIMITS 0x92   /* limits for charge and discharge */
-#define HANUZAK_SERIAL 0x93   /* serial number */
-#define HANUZAK_TURN_OFF 0x95 /* turn off the module */
-#define HANUZAK_SOFTWARE 0x96 /* software version */
+#define HANUZAK_ANALOG 0x42     /* cells, temperatures, current, voltage, capacities, cycles */
+#define HANUZAK_ALARM 0x44      /* alarm codes and status */
+#define HANUZAK_PARAMETERS 0x47 /* system parameter: the module's own limits.  No Command */
+#define HANUZAK_PROTOCOL 0x4F   /* the protocol's version: VER of the reply.  No Command */
+#define HANUZAK_MAKER 0x51      /* name, software version, manufacturer.  No Command */
+#define HANUZAK_LIMITS 0x92     /* limits for charge and discharge */
+#define HANUZAK_SERIAL 0x93     /* serial number */
+#define HANUZAK_TURN_OFF 0x95   /* turn off the module */
+#define HANUZAK_SOFTWARE 0x96   /* software version */
 
 #define HANUZAK_CODE_NORMAL 0x00  /* accepted, with data */
 #define HANUZAK_CODE_VER 0x01     /* VER is not the module's */
@@ -234,16 +236,33 @@ typedef struct hanuzak_limits {
     uint8_t  status;
 } hanuzak_limits;
 
+/* What 47H carries: the module's own limits, in the order of the reply.  Low is the limit of the alarm, under of the protection. */
+typedef struct hanuzak_parameters {
+    int16_t  cell_high_voltage;          /* mV */
+    int16_t  cell_low_voltage;           /* mV, alarm */
+    int16_t  cell_under_voltage;         /* mV, protection */
+    int16_t  charge_high_temperature;    /* as on the wire; see hanuzak_tenths_celsius */
+    int16_t  charge_low_temperature;     /* as on the wire */
+    int16_t  charge_current;             /* 100 mA; see hanuzak_milliamps */
+    uint16_t module_high_voltage;        /* mV */
+    uint16_t module_low_voltage;         /* mV, alarm */
+    uint16_t module_under_voltage;       /* mV, protection */
+    int16_t  discharge_high_temperature; /* as on the wire */
+    int16_t  discharge_low_temperature;  /* as on the wire */
+    int16_t  discharge_current;          /* 100 mA */
+} hanuzak_parameters;
+
 /* One module.  on and link_fault (an internal communication error) are bytes 0 or 1. */
 typedef struct hanuzak_module {
-    uint8_t        adr;
-    uint8_t        on;
-    uint8_t        link_fault;
-    hanuzak_analog analog;
-    hanuzak_alarm  alarm;
-    hanuzak_limits limits;
-    uint8_t        serial[16];
-    uint8_t        version[5]; /* of the software, 96H */
+    uint8_t            adr;
+    uint8_t            on;
+    uint8_t            link_fault;
+    hanuzak_analog     analog;
+    hanuzak_alarm      alarm;
+    hanuzak_limits     limits;
+    uint8_t            serial[16];
+    uint8_t            version[5]; /* of the software, 96H */
+    hanuzak_parameters parameters;
 } hanuzak_module;
 
 /* What the table holds beside its records: VER, and the 32 bytes of 51H (10 name, 2 software version, 20 manufacturer). */
@@ -324,7 +343,7 @@ typedef struct hanuzak_answered {
 
 /*
  * What was asked: the ADR, the command and its Command.  command must be adr, or HANUZAK_GROUP at the master with 42H and 44H;
- * anything else, 0 too, is refused with 34.  With 4FH and 51H, which have no Command, it is ignored.
+ * anything else, 0 too, is refused with 34.  With 47H, 4FH and 51H, which have no Command, it is ignored.
  */
 typedef struct hanuzak_question {
     uint8_t adr;
@@ -333,8 +352,8 @@ typedef struct hanuzak_question {
 } hanuzak_question;
 
 /*
- * HANUZAK_READ or HANUZAK_REFUSED with a number.  flag is that of 42H and 44H with code 00H, else 0.  maker has the 32 bytes of
- * 51H; zeros for every other command and code, and with a refusal.  place is as in hanuzak_event.
+ * HANUZAK_READ or HANUZAK_REFUSED with a number.  flag is that of 42H, 44H and 47H with code 00H, else 0.  maker has the 32 bytes
+ * of 51H; zeros for every other command and code, and with a refusal.  place is as in hanuzak_event.
  */
 typedef struct hanuzak_reply {
     uint32_t kind;
@@ -386,7 +405,21 @@ HANUZAK_FIELD(hanuzak_limits, charge_current, 4, 2);
 HANUZAK_FIELD(hanuzak_limits, discharge_current, 6, 2);
 HANUZAK_FIELD(hanuzak_limits, status, 8, 1);
 
-HANUZAK_SIZE(hanuzak_module, 140);
+HANUZAK_SIZE(hanuzak_parameters, 24);
+HANUZAK_FIELD(hanuzak_parameters, cell_high_voltage, 0, 2);
+HANUZAK_FIELD(hanuzak_parameters, cell_low_voltage, 2, 2);
+HANUZAK_FIELD(hanuzak_parameters, cell_under_voltage, 4, 2);
+HANUZAK_FIELD(hanuzak_parameters, charge_high_temperature, 6, 2);
+HANUZAK_FIELD(hanuzak_parameters, charge_low_temperature, 8, 2);
+HANUZAK_FIELD(hanuzak_parameters, charge_current, 10, 2);
+HANUZAK_FIELD(hanuzak_parameters, module_high_voltage, 12, 2);
+HANUZAK_FIELD(hanuzak_parameters, module_low_voltage, 14, 2);
+HANUZAK_FIELD(hanuzak_parameters, module_under_voltage, 16, 2);
+HANUZAK_FIELD(hanuzak_parameters, discharge_high_temperature, 18, 2);
+HANUZAK_FIELD(hanuzak_parameters, discharge_low_temperature, 20, 2);
+HANUZAK_FIELD(hanuzak_parameters, discharge_current, 22, 2);
+
+HANUZAK_SIZE(hanuzak_module, 164);
 HANUZAK_FIELD(hanuzak_module, adr, 0, 1);
 HANUZAK_FIELD(hanuzak_module, on, 1, 1);
 HANUZAK_FIELD(hanuzak_module, link_fault, 2, 1);
@@ -395,6 +428,7 @@ HANUZAK_FIELD(hanuzak_module, alarm, 72, 34);
 HANUZAK_FIELD(hanuzak_module, limits, 106, 10);
 HANUZAK_FIELD(hanuzak_module, serial, 116, 16);
 HANUZAK_FIELD(hanuzak_module, version, 132, 5);
+HANUZAK_FIELD(hanuzak_module, parameters, 138, 24);
 
 HANUZAK_SIZE(hanuzak_station, 33);
 HANUZAK_FIELD(hanuzak_station, ver, 0, 1);
@@ -495,7 +529,7 @@ hanuzak_ran hanuzak_run(hanuzak_receiver receiver, uint8_t *store, size_t store_
 
 /*
  * A frame from SOI to CR around INFO, 18 + 2 * info_bytes bytes.  Refused: 33 for INFO above 2,047 bytes, then 32.
- * A question is one with CID1 46H and the command as CID2; its INFO is the byte Command, with 4FH and 51H none.
+ * A question is one with CID1 46H and the command as CID2; its INFO is the byte Command, with 47H, 4FH and 51H none.
  */
 hanuzak_written hanuzak_write_frame(uint8_t ver, uint8_t adr, uint8_t cid1, uint8_t cid2, const uint8_t *info, size_t info_bytes,
                                     uint8_t *out, size_t out_bytes);
@@ -505,6 +539,9 @@ hanuzak_written hanuzak_write_analog(hanuzak_module module, uint8_t flag, uint8_
 
 /* INFO of 44H for one module, at most 36 bytes.  Refused: 33 where ADR or a value of alarm can't be encoded, then 32. */
 hanuzak_written hanuzak_write_alarm(hanuzak_module module, uint8_t flag, uint8_t *out, size_t out_bytes);
+
+/* INFO of 47H, 25 bytes.  Refused: 33 for an ADR outside the address rule, then 32. */
+hanuzak_written hanuzak_write_parameters(hanuzak_module module, uint8_t flag, uint8_t *out, size_t out_bytes);
 
 /* INFO of 92H, 10 bytes.  Refused: 33 for an ADR outside the address rule, then 32. */
 hanuzak_written hanuzak_write_limits(hanuzak_module module, uint8_t *out, size_t out_bytes);
@@ -528,6 +565,7 @@ hanuzak_written hanuzak_write_alarm_group(const hanuzak_module *table, size_t re
 /*
  * A new record: on, no link fault, one cell and one temperature in analog and in alarm, and 0 in every other place.  So until a
  * reply is read into it, its cell has 0 mV, its temperature says -273.1 C, and limits asks to stop charging and discharging.
+ * parameters has no limits until a reply to 47H is read: its voltages and currents are 0, its temperatures say -273.1 C.
  * It keeps the table's rule by itself where ADR keeps the address rule.
  */
 hanuzak_module hanuzak_module_new(uint8_t adr);
@@ -556,12 +594,12 @@ void hanuzak_switch_off(hanuzak_module *table, size_t records, size_t at);
  * bytes stay, and its return code is the first of these that applies:
  *   03H the stretch is refused with 5; 05H with 6 or 7; 02H with 8
  *   05H CID1 is not 46H
- *   04H the command is none of the eight
+ *   04H the command is none of the nine
  *   01H VER is not station.ver (not asked of 4FH)
- *   05H INFO is not the one byte Command (with 4FH and 51H: not empty)
+ *   05H INFO is not the one byte Command (with 47H, 4FH and 51H: not empty)
  *   06H Command is FFH, but not at the master with 42H or 44H
  *   90H Command is neither FFH nor ADR
- *   91H a link fault of the module, or with FFH of any member that is on (4FH and 51H answer in spite of it)
+ *   91H a link fault of the module, or with FFH of any member that is on (47H, 4FH and 51H answer in spite of it)
  *   00H otherwise, with the data
  * An accepted 95H switches its module off in the table, and nothing else changes the table.
  */

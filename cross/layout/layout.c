@@ -64,6 +64,18 @@ static hanuzak_module sample(uint8_t adr, unsigned k)
     m.limits.charge_current = (int16_t)(0x0789 + k);
     m.limits.discharge_current = (int16_t)(-0x0ABC - (int)k);
     m.limits.status = (uint8_t)(0xC1 + k);
+    m.parameters.cell_high_voltage = (int16_t)(0x0E74 + k);
+    m.parameters.cell_low_voltage = (int16_t)(0x0BEA + k);
+    m.parameters.cell_under_voltage = (int16_t)(-0x0B54 - (int)k);
+    m.parameters.charge_high_temperature = (int16_t)(-0x0C9F - (int)k);
+    m.parameters.charge_low_temperature = (int16_t)(0x0AAB + k);
+    m.parameters.charge_current = (int16_t)(0x02FA + k);
+    m.parameters.module_high_voltage = (uint16_t)(0xD002 + k);
+    m.parameters.module_low_voltage = (uint16_t)(0xB798 + k);
+    m.parameters.module_under_voltage = (uint16_t)(0xADD4 + k);
+    m.parameters.discharge_high_temperature = (int16_t)(0x0D03 + k);
+    m.parameters.discharge_low_temperature = (int16_t)(-0x1A47 - (int)k);
+    m.parameters.discharge_current = (int16_t)(-0x04F6 - (int)k);
     for (unsigned j = 0; j < HANUZAK_CELLS; j++) {
         m.analog.cells[j] = (int16_t)((j % 2 ? -1 : 1) * (int)(0x0C01 + 0x0102 * j + k));
         m.serial[j] = (uint8_t)(0x41 + j + k);
@@ -135,6 +147,22 @@ static void same_limits(hanuzak_limits limits, hanuzak_limits should)
     SAME(limits.status, should.status);
 }
 
+static void same_parameters(hanuzak_parameters parameters, hanuzak_parameters should)
+{
+    SAME(parameters.cell_high_voltage, should.cell_high_voltage);
+    SAME(parameters.cell_low_voltage, should.cell_low_voltage);
+    SAME(parameters.cell_under_voltage, should.cell_under_voltage);
+    SAME(parameters.charge_high_temperature, should.charge_high_temperature);
+    SAME(parameters.charge_low_temperature, should.charge_low_temperature);
+    SAME(parameters.charge_current, should.charge_current);
+    SAME(parameters.module_high_voltage, should.module_high_voltage);
+    SAME(parameters.module_low_voltage, should.module_low_voltage);
+    SAME(parameters.module_under_voltage, should.module_under_voltage);
+    SAME(parameters.discharge_high_temperature, should.discharge_high_temperature);
+    SAME(parameters.discharge_low_temperature, should.discharge_low_temperature);
+    SAME(parameters.discharge_current, should.discharge_current);
+}
+
 static void same_module(hanuzak_module module, hanuzak_module should)
 {
     SAME(module.adr, should.adr);
@@ -147,6 +175,7 @@ static void same_module(hanuzak_module module, hanuzak_module should)
         same_at("module.serial", j, module.serial[j], should.serial[j]);
     for (size_t j = 0; j < 5; j++)
         same_at("module.version", j, module.version[j], should.version[j]);
+    same_parameters(module.parameters, should.parameters);
 }
 
 /* ---- written: the fields as bytes, in the order of INFO (PROTOCOL 9) */
@@ -243,6 +272,35 @@ static void alarm_written(void)
     m = sample(MASTER, 0);
     m.alarm.discharge_current = CODE;
     code_written("alarm.discharge_current", 0, m, 28);
+}
+
+/* The flag, no Command, and the twelve limits in the order of V3.3. */
+static void parameters_written(void)
+{
+    hanuzak_module  m = sample(MASTER, 0);
+    hanuzak_written refused;
+
+    written(hanuzak_write_parameters(m, FLAG, out, sizeof out), 25);
+    next("flag", 1, FLAG);
+    next("parameters.cell_high_voltage", 2, m.parameters.cell_high_voltage);
+    next("parameters.cell_low_voltage", 2, m.parameters.cell_low_voltage);
+    next("parameters.cell_under_voltage", 2, m.parameters.cell_under_voltage);
+    next("parameters.charge_high_temperature", 2, m.parameters.charge_high_temperature);
+    next("parameters.charge_low_temperature", 2, m.parameters.charge_low_temperature);
+    next("parameters.charge_current", 2, m.parameters.charge_current);
+    next("parameters.module_high_voltage", 2, m.parameters.module_high_voltage);
+    next("parameters.module_low_voltage", 2, m.parameters.module_low_voltage);
+    next("parameters.module_under_voltage", 2, m.parameters.module_under_voltage);
+    next("parameters.discharge_high_temperature", 2, m.parameters.discharge_high_temperature);
+    next("parameters.discharge_low_temperature", 2, m.parameters.discharge_low_temperature);
+    next("parameters.discharge_current", 2, m.parameters.discharge_current);
+    refused = hanuzak_write_parameters(m, FLAG, out, 24);
+    SAME(refused.number, 32);
+    SAME(refused.length, 0);
+    m.adr = 0x01;
+    refused = hanuzak_write_parameters(m, FLAG, out, 24);
+    SAME(refused.number, 33);
+    SAME(refused.length, 0);
 }
 
 static void others_written(void)
@@ -598,7 +656,7 @@ static hanuzak_question question(uint8_t adr, uint8_t cid2, uint8_t command)
 static hanuzak_answered answer(hanuzak_module *table, size_t n, hanuzak_question asked)
 {
     uint8_t         frame[20];
-    size_t          info = asked.cid2 == 0x51 ? 0 : 1;
+    size_t          info = asked.cid2 == 0x47 || asked.cid2 == 0x51 ? 0 : 1;
     hanuzak_written asking = hanuzak_write_frame(VER, asked.adr, BATTERY, asked.cid2, &asked.command, info, frame, sizeof frame);
 
     same("question", asking.number, 0);
@@ -689,6 +747,7 @@ static void read_back(uint8_t cid2, hanuzak_written info, uint8_t flag)
     table[2].analog = sample(SECOND, 40).analog;
     table[2].alarm = sample(SECOND, 40).alarm;
     table[2].limits = sample(SECOND, 40).limits;
+    table[2].parameters = sample(SECOND, 40).parameters;
     memset(table[2].serial, 0, sizeof table[2].serial);
     memset(table[2].version, 0, sizeof table[2].version);
     memcpy(plain, table, sizeof table);
@@ -697,6 +756,8 @@ static void read_back(uint8_t cid2, hanuzak_written info, uint8_t flag)
         plain[2].analog = sample(SECOND, 3).analog;
     if (cid2 == 0x44)
         plain[2].alarm = sample(SECOND, 3).alarm;
+    if (cid2 == 0x47)
+        plain[2].parameters = sample(SECOND, 3).parameters;
     if (cid2 == 0x92)
         plain[2].limits = sample(SECOND, 3).limits;
     if (cid2 == 0x93)
@@ -713,6 +774,7 @@ static void records_read(void)
 
     read_back(0x42, hanuzak_write_analog(m, FLAG, out, sizeof out), FLAG);
     read_back(0x44, hanuzak_write_alarm(m, FLAG, out, sizeof out), FLAG);
+    read_back(0x47, hanuzak_write_parameters(m, FLAG, out, sizeof out), FLAG);
     read_back(0x92, hanuzak_write_limits(m, out, sizeof out), 0);
     read_back(0x93, hanuzak_write_serial(m, out, sizeof out), 0);
     read_back(0x96, hanuzak_write_version(m, out, sizeof out), 0);
@@ -764,7 +826,9 @@ static void marks(void)
     same_refused(hanuzak_read_reply(table, 3, question(MASTER, 0x42, MASTER), out + 1, 16), 11);
     same_refused(hanuzak_read_reply(table, 3, question(0x0D, 0x42, 0x0D), out + 1, 16), 23);
     same_refused(hanuzak_read_reply(table, 3, question(SECOND, 0x42, MASTER), out + 1, 16), 34);
-    same_refused(hanuzak_read_reply(table, 3, question(SECOND, 0x47, SECOND), out + 1, 16), 34);
+    same_refused(hanuzak_read_reply(table, 3, question(SECOND, 0x94, SECOND), out + 1, 16), 34);
+    same_reply(hanuzak_read_reply(table, 3, question(SECOND, 0x47, 0), out + 1, 16), VER, 0x91, 0);
+    same_answered(answer(table, 3, question(SECOND, 0x47, 0)), 1, 0, 18 + 50);
     table[2].link_fault = 0;
     off = table[2];
     off.on = 0;
@@ -786,12 +850,16 @@ static void signs(void)
     memset(&m.analog.voltage, 0xFF, sizeof m.analog.voltage);
     memset(&m.analog.cycles, 0xFF, sizeof m.analog.cycles);
     memset(&m.limits, 0xFF, sizeof m.limits);
+    memset(&m.parameters, 0xFF, sizeof m.parameters);
     length = hanuzak_write_analog(m, FLAG, out, sizeof out).length;
     length = hanuzak_write_frame(VER, SECOND, BATTERY, 0x00, out, length, frame, sizeof frame).length;
     same_reply(hanuzak_read_reply(&m, 1, question(SECOND, 0x42, SECOND), frame + 1, length - 2), VER, 0x00, FLAG);
     length = hanuzak_write_limits(m, out, sizeof out).length;
     length = hanuzak_write_frame(VER, SECOND, BATTERY, 0x00, out, length, frame, sizeof frame).length;
     same_reply(hanuzak_read_reply(&m, 1, question(SECOND, 0x92, SECOND), frame + 1, length - 2), VER, 0x00, 0x00);
+    length = hanuzak_write_parameters(m, FLAG, out, sizeof out).length;
+    length = hanuzak_write_frame(VER, SECOND, BATTERY, 0x00, out, length, frame, sizeof frame).length;
+    same_reply(hanuzak_read_reply(&m, 1, question(SECOND, 0x47, SECOND), frame + 1, length - 2), VER, 0x00, FLAG);
     SAME(m.analog.cells[15], -1);
     SAME(m.analog.temperatures[7], -1);
     SAME(m.analog.current, -1);
@@ -802,6 +870,18 @@ static void signs(void)
     SAME(m.limits.charge_current, -1);
     SAME(m.limits.discharge_current, -1);
     SAME(m.limits.status, 255);
+    SAME(m.parameters.cell_high_voltage, -1);
+    SAME(m.parameters.cell_low_voltage, -1);
+    SAME(m.parameters.cell_under_voltage, -1);
+    SAME(m.parameters.charge_high_temperature, -1);
+    SAME(m.parameters.charge_low_temperature, -1);
+    SAME(m.parameters.charge_current, -1);
+    SAME(m.parameters.module_high_voltage, 65535);
+    SAME(m.parameters.module_low_voltage, 65535);
+    SAME(m.parameters.module_under_voltage, 65535);
+    SAME(m.parameters.discharge_high_temperature, -1);
+    SAME(m.parameters.discharge_low_temperature, -1);
+    SAME(m.parameters.discharge_current, -1);
 }
 
 /* ---- constants: the header's own, held to what the archive does */
@@ -826,7 +906,7 @@ static void codes(void)
     same("HANUZAK_CODE_VER", code_to("20054642E00205FD2D"), HANUZAK_CODE_VER);
     same("HANUZAK_CODE_CHKSUM", code_to("21054642E00205FD20"), HANUZAK_CODE_CHKSUM);
     same("HANUZAK_CODE_LCHKSUM", code_to("21054642D00205FD2C"), HANUZAK_CODE_LCHKSUM);
-    same("HANUZAK_CODE_CID2", code_to("21054647E00205FD27"), HANUZAK_CODE_CID2);
+    same("HANUZAK_CODE_CID2", code_to("21054694E00205FD25"), HANUZAK_CODE_CID2);
     same("HANUZAK_CODE_FORMAT", code_to("21054542E00205FD2D"), HANUZAK_CODE_FORMAT);
     same("HANUZAK_CODE_DATA", code_to("21054642E002FFFD05"), HANUZAK_CODE_DATA);
     same("HANUZAK_CODE_ADR", code_to("21054642E00202FD2F"), HANUZAK_CODE_ADR);
@@ -836,8 +916,9 @@ static void codes(void)
 /* Each command is served, with INFO of its own length. */
 static void commands(void)
 {
-    const uint8_t  all[] = { HANUZAK_ANALOG, HANUZAK_ALARM, HANUZAK_MAKER, HANUZAK_LIMITS, HANUZAK_SERIAL, HANUZAK_SOFTWARE };
-    const size_t   bytes[] = { 69, 34, 32, 10, 17, 6 };
+    const uint8_t  all[] = { HANUZAK_ANALOG, HANUZAK_ALARM,  HANUZAK_PARAMETERS, HANUZAK_MAKER,
+                             HANUZAK_LIMITS, HANUZAK_SERIAL, HANUZAK_SOFTWARE };
+    const size_t   bytes[] = { 69, 34, 25, 32, 10, 17, 6 };
     hanuzak_module table[3];
 
     three(table);
@@ -874,7 +955,7 @@ static void meanings(void)
 /* After a refusal, and after a reply that changes no record, not one byte of the lent table differs, its padding neither. */
 static void untouched(void)
 {
-    static const size_t padding[] = {3, 5, 39, 70, 71, 115, 137, 138, 139};
+    static const size_t padding[] = {3, 5, 39, 70, 71, 115, 137, 162, 163};
     const hanuzak_question asked = question(SECOND, 0x42, SECOND);
     hanuzak_module         table[3];
     uint8_t                before[sizeof table];
@@ -899,6 +980,7 @@ int main(void)
 {
     analog_written();
     alarm_written();
+    parameters_written();
     others_written();
     group_written();
     made();

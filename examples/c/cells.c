@@ -1,24 +1,33 @@
 /*
- * cells.c - what modules say of their cells.  Reads the line or a capture of it from standard input, and prints each reading as
- * soon as its reply has come.
+ * cells.c - what modules say of their cells, and of the limits that these are held to.  Reads the line or a capture of it from
+ * standard input, and prints each reading as soon as its reply has come.
  *
  *     cells [--all-42] [ADR..] < capture        the modules' ADRs in hex, rising; 02 where none is given
  *
  * A reply does not name its command, so the command is taken from the line.  A frame whose CID2 is no return code is a question.
- * A frame with a return code answers the question before it, and is read where that one was 42H to a module that was named.
+ * A frame with a return code answers the question before it, and is read where that one was 42H or 47H to a module that was named.
  * The question stays open until a reply to it was read or another question comes: a broken or foreign reply does not cost the
- * good one behind it.  But a question that was itself broken leaves the one before it open, and its reply is judged as one to that.
+ * good one behind it.  But a question that was itself broken leaves the one before it open, and its reply is judged as one to that;
+ * and a reply that comes after the next question is judged as one to this.  Most such replies are refused; any with 25 bytes of INFO
+ * is read as limits (PROTOCOL 8.14).
+ *
+ * 47H has the module's own limits, all twelve.  Once they were read, each cell of the module has a line of its own with the low and
+ * the high limit beside it.  It is marked where it is ABOVE the high one, BELOW the low one (the alarm's) or UNDER the under voltage
+ * limit (the protection's), which is then said too; a cell at a limit is not outside.  Until then all cells stand in one line.  The
+ * two questions may come in any order: a module's first limits, where they come after its cells, are printed with these, and with
+ * the place of their reply.  Limits stay until the module sends others: one that was exchanged must be asked again.  A module whose
+ * limits are all 0 has every cell marked, as a stand-in has whose table gives none.
  *
  * A reply to Command FFH at the master has a record for each module that is on and names none.  It is read where they are as many
  * as were named, and otherwise refused with 22.  So name those that are on, all of them, where such replies are to be read.
  *
  * --all-42 is for a capture of replies alone, as from a wire that only receives: it takes every reply of a module that was named
- * as one to 42H, with the Command that stands in it.  THE RISK: nothing tells a reply to another command apart.  Most are refused,
- * but one whose bytes happen to fit is printed as values that the module never sent (PROTOCOL 8.14).
+ * as one to 42H, with the Command that stands in it, and so has no limits.  THE RISK: nothing tells a reply to another command
+ * apart.  Most are refused, but one whose bytes happen to fit is printed as values that the module never sent (PROTOCOL 8.14).
  *
  * A value is printed only from a reply that was read with code 00H.  Every refusal has its place in the capture (the offset of
  * the SOI), its number and its words; 4 and 9 also have the place of the bad character, 0 for the first after SOI.  The last line
- * begins with "readings"; without it the output is incomplete.
+ * begins with "readings", which counts the replies with values, to 42H and to 47H; without it the output is incomplete.
  */
 #include "hanuzak.h"
 
@@ -31,9 +40,16 @@
 /* The question that is open: none, one that is not for us, ours, or ours with a reply that was refused. */
 enum asked { NONE, OTHER, OURS, OURS_REFUSED };
 
+/* What was read of a module so far: a new record does not tell a value that was read from one that was not. */
+struct seen {
+    int      cells, limits;
+    uint64_t cells_at; /* the offset of the reply that had them */
+};
+
 struct line {
     int              all_42;
     hanuzak_module   table[HANUZAK_MODULES];
+    struct seen      seen[HANUZAK_MODULES]; /* of the record at the same place */
     size_t           modules;
     hanuzak_receiver receiver;
     uint8_t          store[HANUZAK_STORE];
@@ -60,14 +76,61 @@ static void print_tenths(int32_t tenths)
     printf(" %s%" PRId32 ".%" PRId32, tenths < 0 ? "-" : "", size / 10, size % 10);
 }
 
-static void print_module(const hanuzak_module *module)
+static void print_cells(const hanuzak_analog *analog)
+{
+    printf("  cells, mV:");
+    for (size_t i = 0; i < analog->cell_count; i++)
+        printf(" %d", analog->cells[i]);
+    printf("\n");
+}
+
+/* Each cell beside the limits that it was held to.  Under comes before low: it is the graver of the two. */
+static void print_held_cells(const hanuzak_analog *analog, const hanuzak_parameters *limits)
+{
+    for (size_t i = 0; i < analog->cell_count; i++) {
+        int cell = analog->cells[i];
+
+        printf("  cell %zu, mV: %d of %d to %d", i + 1, cell, limits->cell_low_voltage, limits->cell_high_voltage);
+        if (cell > limits->cell_high_voltage)
+            printf(", ABOVE");
+        else if (cell < limits->cell_under_voltage)
+            printf(", UNDER %d", limits->cell_under_voltage);
+        else if (cell < limits->cell_low_voltage)
+            printf(", BELOW");
+        printf("\n");
+    }
+}
+
+static void print_flow_limits(const char *of, int16_t high, int16_t low, int16_t current)
+{
+    printf("  %s limits, C: high", of);
+    print_tenths(hanuzak_tenths_celsius(high));
+    printf(", low");
+    print_tenths(hanuzak_tenths_celsius(low));
+    printf("; mA: %" PRId32 "\n", hanuzak_milliamps(current));
+}
+
+/* In the order of the reply. */
+static void print_limits(const hanuzak_parameters *limits)
+{
+    printf("  cell limits, mV: high %d, low %d, under %d\n", limits->cell_high_voltage, limits->cell_low_voltage,
+           limits->cell_under_voltage);
+    print_flow_limits("charge", limits->charge_high_temperature, limits->charge_low_temperature, limits->charge_current);
+    printf("  module limits, mV: high %u, low %u, under %u\n", limits->module_high_voltage, limits->module_low_voltage,
+           limits->module_under_voltage);
+    print_flow_limits("discharge", limits->discharge_high_temperature, limits->discharge_low_temperature,
+                      limits->discharge_current);
+}
+
+static void print_analog(const hanuzak_module *module, int limits_seen)
 {
     const hanuzak_analog *analog = &module->analog;
 
-    printf("module %02X\n  cells, mV:", module->adr);
-    for (size_t i = 0; i < analog->cell_count; i++)
-        printf(" %d", analog->cells[i]);
-    printf("\n  temperatures, C:");
+    if (limits_seen)
+        print_held_cells(analog, &module->parameters);
+    else
+        print_cells(analog);
+    printf("  temperatures, C:");
     for (size_t i = 0; i < analog->temperature_count; i++)
         print_tenths(hanuzak_tenths_celsius(analog->temperatures[i]));
     printf("\n  current, mA: %" PRId32 "\n", hanuzak_milliamps(analog->current));
@@ -77,14 +140,41 @@ static void print_module(const hanuzak_module *module)
     printf("  cycles: %u\n", analog->cycles);
 }
 
-/* The modules whose records the reply replaced. */
-static void print_reading(const struct line *line, uint64_t at)
+static void take_analog(const hanuzak_module *module, struct seen *seen, uint64_t at)
 {
-    for (size_t i = 0; i < line->modules; i++)
-        if (line->question.command == HANUZAK_GROUP || line->question.adr == line->table[i].adr) {
-            printf("at %" PRIu64 ": ", at);
-            print_module(&line->table[i]);
-        }
+    seen->cells = 1;
+    seen->cells_at = at;
+    print_analog(module, seen->limits);
+}
+
+/* Cells that were read before stand beside the limits only where these are the first: else they were held to those before. */
+static void take_limits(const hanuzak_module *module, struct seen *seen)
+{
+    int first = !seen->limits;
+
+    seen->limits = 1;
+    print_limits(&module->parameters);
+    if (seen->cells && first) {
+        printf("  beside the cells read at %" PRIu64 ":\n", seen->cells_at);
+        print_held_cells(&module->analog, &module->parameters);
+    }
+}
+
+/* Prints the modules whose records the reply replaced, and keeps what was read of them. */
+static void take_reading(struct line *line, uint64_t at)
+{
+    int limits = line->question.cid2 == HANUZAK_PARAMETERS;
+    int group = !limits && line->question.command == HANUZAK_GROUP;
+
+    for (size_t i = 0; i < line->modules; i++) {
+        if (!group && line->question.adr != line->table[i].adr)
+            continue;
+        printf("at %" PRIu64 ": module %02X\n", at, line->table[i].adr);
+        if (limits)
+            take_limits(&line->table[i], &line->seen[i]);
+        else
+            take_analog(&line->table[i], &line->seen[i], at);
+    }
 }
 
 /* ---- questions and replies */
@@ -121,14 +211,23 @@ static void close_question(struct line *line)
     line->asked = NONE;
 }
 
+/* 42H with its Command, or 47H, which has none. */
+static int is_ours(const struct line *line, hanuzak_event frame)
+{
+    return is_named(line, frame.adr) && frame.cid1 == HANUZAK_CID1
+           && ((frame.cid2 == HANUZAK_ANALOG && frame.lenid == 2) || (frame.cid2 == HANUZAK_PARAMETERS && frame.lenid == 0));
+}
+
 static void take_question(struct line *line, uint64_t at, hanuzak_event frame)
 {
     close_question(line);
     line->asked = OTHER;
-    if (is_named(line, frame.adr) && frame.cid1 == HANUZAK_CID1 && frame.cid2 == HANUZAK_ANALOG && frame.lenid == 2) {
+    if (is_ours(line, frame)) {
         line->asked = OURS;
         line->asked_at = at;
-        line->question = (hanuzak_question){.adr = frame.adr, .cid2 = frame.cid2, .command = info_byte(line, 0)};
+        line->question = (hanuzak_question){.adr = frame.adr, .cid2 = frame.cid2};
+        if (frame.cid2 == HANUZAK_ANALOG)
+            line->question.command = info_byte(line, 0);
     }
 }
 
@@ -148,7 +247,7 @@ static void read_reply(struct line *line, uint64_t at, size_t characters)
         line->without_values++;
         return;
     }
-    print_reading(line, at);
+    take_reading(line, at);
     line->readings++;
 }
 
@@ -246,7 +345,8 @@ int main(int argc, char **argv)
         fprintf(stderr, "usage: cells [--all-42] [ADR..] < capture\n"
                         "one to twelve ADRs in hex, rising, of one group: 02 to 0D, 12 to 1D, up to 72 to 7D\n"
                         "--all-42  take every reply as one to 42H: for captures without questions.  A reply to another\n"
-                        "          command is then refused or, where its bytes happen to fit, printed as wrong values\n");
+                        "          command is then refused or, where its bytes happen to fit, printed as wrong values; and\n"
+                        "          limits (47H) are not read\n");
         return EXIT_FAILURE;
     }
     line.receiver = hanuzak_receiver_new();

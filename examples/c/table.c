@@ -10,14 +10,20 @@ static const char *const built_in[] = {
 
     "module 02", "cells 3397 3396 3397 3396 3397 3396 3390 3397 3402 3402 3403 3402 3402 3402 3402", "voltage 50981",
     "temperatures 280 281 279 290 291", "current -40", "capacity 38500 50000", "cycles 112", "status 00 06 40 00 00",
+    "cell_limits 3700 3050 2900", "charge_temperature_limits 500 0", "charge_current_limit 250",
+    "module_limits 53250 47000 44500", "discharge_temperature_limits 600 -100", "discharge_current_limit -250",
     "limit_voltages 53250 47000", "limit_currents 250 250", "request C0", "serial EXAMPLE-00000002", "version 01 02 00 01 03",
 
     "module 03", "cells 3371 3372 3370 3371 3369 3371 3373 3371 3370 3372 3371 3368 3371 3372 3370", "voltage 50562",
     "temperatures 265 263 264 266 262", "current -38", "capacity 36200 50000", "cycles 109", "status 00 06 40 00 00",
+    "cell_limits 3700 3050 2900", "charge_temperature_limits 500 0", "charge_current_limit 250",
+    "module_limits 53250 47000 44500", "discharge_temperature_limits 600 -100", "discharge_current_limit -250",
     "limit_voltages 53250 47000", "limit_currents 250 250", "request C0", "serial EXAMPLE-00000003", "version 01 02 00 01 03",
 
     "module 04", "cells 3341 3340 3342 3341 3339 3340 3344 3341 3340 3338 3341 3342 3340 3341 3339", "voltage 50109",
     "temperatures 251 248 249 247 250", "current -35", "capacity 31750 50000", "cycles 140", "status 00 06 40 00 00",
+    "cell_limits 3650 3000 2800", "charge_temperature_limits 450 50", "charge_current_limit 200",
+    "module_limits 52500 46500 43500", "discharge_temperature_limits 550 -50", "discharge_current_limit -200",
     "limit_voltages 53250 47000", "limit_currents 250 250", "request C0", "serial EXAMPLE-00000004", "version 01 02 00 01 04",
 };
 
@@ -35,7 +41,8 @@ struct key {
 #define IN_STATION(field) offsetof(hanuzak_station, field)
 #define IN_MODULE(field) offsetof(hanuzak_module, field)
 
-enum { ZERO_CELSIUS = 2731 };
+/* Temperatures are sent in tenths of a kelvin; a key whose values begin at the least of them has temperatures. */
+enum { ZERO_CELSIUS = 2731, LEAST_CELSIUS = -ZERO_CELSIUS, MOST_CELSIUS = INT16_MAX - ZERO_CELSIUS };
 
 static const struct key module_key = {"module", 16, 1, 1, 0, 0xFF, 0, 1};
 
@@ -51,7 +58,7 @@ static const struct key module_keys[] = {
     {"on", 10, 1, 1, 0, 1, IN_MODULE(on), 1},
     {"fault", 10, 1, 1, 0, 1, IN_MODULE(link_fault), 1},
     {"cells", 10, 1, HANUZAK_CELLS, INT16_MIN, INT16_MAX, IN_MODULE(analog.cells), 2},
-    {"temperatures", 10, 1, HANUZAK_TEMPERATURES, -ZERO_CELSIUS, INT16_MAX - ZERO_CELSIUS, IN_MODULE(analog.temperatures), 2},
+    {"temperatures", 10, 1, HANUZAK_TEMPERATURES, LEAST_CELSIUS, MOST_CELSIUS, IN_MODULE(analog.temperatures), 2},
     {"current", 10, 1, 1, INT16_MIN, INT16_MAX, IN_MODULE(analog.current), 2},
     {"voltage", 10, 1, 1, 0, UINT16_MAX, IN_MODULE(analog.voltage), 2},
     {"capacity", 10, 2, 2, 0, 0xFFFFFF, IN_MODULE(analog.remaining), 4},
@@ -60,6 +67,12 @@ static const struct key module_keys[] = {
     {"temperature_codes", 16, 1, HANUZAK_TEMPERATURES, 0, 0xFF, IN_MODULE(alarm.temperatures), 1},
     {"codes", 16, 3, 3, 0, 0xFF, IN_MODULE(alarm.charge_current), 1},
     {"status", 16, 5, 5, 0, 0xFF, IN_MODULE(alarm.status), 1},
+    {"cell_limits", 10, 3, 3, INT16_MIN, INT16_MAX, IN_MODULE(parameters.cell_high_voltage), 2},
+    {"charge_temperature_limits", 10, 2, 2, LEAST_CELSIUS, MOST_CELSIUS, IN_MODULE(parameters.charge_high_temperature), 2},
+    {"charge_current_limit", 10, 1, 1, INT16_MIN, INT16_MAX, IN_MODULE(parameters.charge_current), 2},
+    {"module_limits", 10, 3, 3, 0, UINT16_MAX, IN_MODULE(parameters.module_high_voltage), 2},
+    {"discharge_temperature_limits", 10, 2, 2, LEAST_CELSIUS, MOST_CELSIUS, IN_MODULE(parameters.discharge_high_temperature), 2},
+    {"discharge_current_limit", 10, 1, 1, INT16_MIN, INT16_MAX, IN_MODULE(parameters.discharge_current), 2},
     {"limit_voltages", 10, 2, 2, 0, UINT16_MAX, IN_MODULE(limits.charge_voltage), 2},
     {"limit_currents", 10, 2, 2, INT16_MIN, INT16_MAX, IN_MODULE(limits.charge_current), 2},
     {"request", 16, 1, 1, 0, 0xFF, IN_MODULE(limits.status), 1},
@@ -127,10 +140,9 @@ static size_t take_values(const struct key *key, uint8_t *to, long added)
 /* The lists of 42H have a count, which is also that of the codes in 44H. */
 static size_t take_module_values(const struct key *key, hanuzak_module *module)
 {
-    int    temperatures = key->place == IN_MODULE(analog.temperatures);
-    size_t count = take_values(key, (uint8_t *)module + key->place, temperatures ? ZERO_CELSIUS : 0);
+    size_t count = take_values(key, (uint8_t *)module + key->place, key->low == LEAST_CELSIUS ? ZERO_CELSIUS : 0);
 
-    if (temperatures)
+    if (key->place == IN_MODULE(analog.temperatures))
         module->analog.temperature_count = module->alarm.temperature_count = (uint8_t)count;
     if (key->place == IN_MODULE(analog.cells))
         module->analog.cell_count = module->alarm.cell_count = (uint8_t)count;

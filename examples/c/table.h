@@ -2,7 +2,8 @@
  * table.h - the table of a stand-in, from a text file.
  *
  * A line is a key and its values; what follows a # is a comment.  `ver` and the keys of 51H are the table's, every other key is of
- * the module named before it.  A module has what hanuzak_module_new gives it, until a line says otherwise.
+ * the module named before it.  A module has what hanuzak_module_new gives it, until a line says otherwise: a module without lines
+ * for 47H sends zeros there.
  *
  *     ver HEX, name TEXT, software HEX HEX, maker TEXT                VER, and 51H
  *     module HEX                                                      a module by its ADR; the ADRs rise, and are of one group
@@ -12,6 +13,10 @@
  *     cell_codes HEX.., temperature_codes HEX..                       44H
  *     codes HEX HEX HEX                                               44H; charge current, module voltage, discharge current
  *     status HEX HEX HEX HEX HEX                                      44H
+ *     cell_limits mV mV mV, module_limits mV mV mV                    47H; high, low (alarm), under (protection)
+ *     charge_temperature_limits 0.1C 0.1C, charge_current_limit 0.1A  47H; high, low
+ *     discharge_temperature_limits 0.1C 0.1C                          47H; high, low
+ *     discharge_current_limit 0.1A                                    47H
  *     limit_voltages mV mV, limit_currents 0.1A 0.1A, request HEX     92H; charge, then discharge; the status byte
  *     serial TEXT, version HEX HEX HEX HEX HEX                        93H, 96H
  *

@@ -1,9 +1,10 @@
 #!/usr/bin/env python3
-"""What modules say of their cells, by ctypes: a line for each module that a reply to 42H tells of.
+"""What modules say of their cells and limits, by ctypes: a line for each module that a reply to 42H or 47H tells of.
 
     cells.py LIBHANUZAK.SO [ADR..] < capture        the modules' ADRs in hex, rising; 02 where none is given
 
-A reply is read where the question before it was 42H to a module that was named; see examples/c/cells.c.
+A reply is read where the question before it was 42H or 47H to a module that was named; see examples/c/cells.c.
+Once the limits of a module were read (47H), the cells that are outside are told with their marks.
 """
 import ctypes
 import os
@@ -15,7 +16,7 @@ from ctypes import POINTER, c_int16, c_int32, c_size_t, c_uint8, c_uint16, c_uin
 HEADER = pathlib.Path(__file__).resolve().parents[2] / "include/hanuzak.h"
 NOTHING, FRAME, REFUSED = 0, 1, 2  # kinds of an event and of a reply
 LOWER_CASE, NO_HEX_DIGIT = 4, 9  # the refusals with the place of a character
-CID1, ANALOG, GROUP, STORE = 0x46, 0x42, 0xFF, 4110
+CID1, ANALOG, PARAMETERS, GROUP, STORE = 0x46, 0x42, 0x47, 0xFF, 4110
 RETURN_CODES = {*range(0x00, 0x07), 0x90, 0x91}
 
 
@@ -32,8 +33,12 @@ Alarm = struct(34, cell_count=c_uint8, cells=c_uint8 * 16, temperature_count=c_u
                charge_current=c_uint8, module_voltage=c_uint8, discharge_current=c_uint8, status=c_uint8 * 5)
 Limits = struct(10, charge_voltage=c_uint16, discharge_voltage=c_uint16, charge_current=c_int16,
                 discharge_current=c_int16, status=c_uint8)
-Module = struct(140, adr=c_uint8, on=c_uint8, link_fault=c_uint8, analog=Analog, alarm=Alarm, limits=Limits,
-                serial=c_uint8 * 16, version=c_uint8 * 5)
+Parameters = struct(24, cell_high_voltage=c_int16, cell_low_voltage=c_int16, cell_under_voltage=c_int16,
+                    charge_high_temperature=c_int16, charge_low_temperature=c_int16, charge_current=c_int16,
+                    module_high_voltage=c_uint16, module_low_voltage=c_uint16, module_under_voltage=c_uint16,
+                    discharge_high_temperature=c_int16, discharge_low_temperature=c_int16, discharge_current=c_int16)
+Module = struct(164, adr=c_uint8, on=c_uint8, link_fault=c_uint8, analog=Analog, alarm=Alarm, limits=Limits,
+                serial=c_uint8 * 16, version=c_uint8 * 5, parameters=Parameters)
 Event = struct(24, kind=c_uint32, number=c_uint32, ver=c_uint8, adr=c_uint8, cid1=c_uint8, cid2=c_uint8, place=c_uint32,
                lenid=c_size_t)
 Receiver = struct(16, open=c_size_t, count=c_size_t)
@@ -76,6 +81,33 @@ def refusal(told, words):
     return f"refused, {told.number}{place}: {words[told.number]}"
 
 
+def outside(cell, limits):
+    """The mark of a cell, with the limit that it is outside of; none at a limit."""
+    if cell > limits.cell_high_voltage:
+        return f"ABOVE {limits.cell_high_voltage}"
+    if cell < limits.cell_under_voltage:
+        return f"UNDER {limits.cell_under_voltage}"
+    return f"BELOW {limits.cell_low_voltage}" if cell < limits.cell_low_voltage else None
+
+
+def held(module):
+    """The cells beside their limits: those that are outside."""
+    limits, analog = module.parameters, module.analog
+    marks = [(place + 1, outside(cell, limits)) for place, cell in enumerate(analog.cells[: analog.cell_count])]
+    told = [f"cell {number} {mark}" for number, mark in marks if mark]
+    return ", ".join(told) if told else f"all cells in {limits.cell_low_voltage} to {limits.cell_high_voltage} mV"
+
+
+def limits_of(hanuzak, module):
+    limits, celsius = module.parameters, hanuzak.tenths_celsius
+    return (f"module {module.adr:02X}: limits: cells {limits.cell_high_voltage}, {limits.cell_low_voltage}, "
+            f"{limits.cell_under_voltage} mV, charge {celsius(limits.charge_high_temperature) / 10}, "
+            f"{celsius(limits.charge_low_temperature) / 10} C, {hanuzak.milliamps(limits.charge_current)} mA, "
+            f"module {limits.module_high_voltage}, {limits.module_low_voltage}, {limits.module_under_voltage} mV, "
+            f"discharge {celsius(limits.discharge_high_temperature) / 10}, "
+            f"{celsius(limits.discharge_low_temperature) / 10} C, {hanuzak.milliamps(limits.discharge_current)} mA")
+
+
 def reading(hanuzak, module):
     analog = module.analog
     cells = analog.cells[: analog.cell_count]
@@ -114,13 +146,14 @@ def main():
     if hanuzak.table(table, len(table)) != 0:
         sys.exit("cells.py: " + words[31])
     store = (c_uint8 * STORE)()
-    question = None
+    question, read = None, set()  # read: the ADR and command of what was read
     for at, event in events(hanuzak, store):
         if event.kind == REFUSED:
             print(f"at {at}: stretch {refusal(event, words)}", flush=True)
         elif event.cid2 not in RETURN_CODES:
             command = int(bytes(store[12:14]), 16) if event.lenid == 2 else 0
-            ours = event.adr in addresses and (event.cid1, event.cid2, event.lenid) == (CID1, ANALOG, 2)
+            asked = (event.cid1, event.cid2, event.lenid)
+            ours = event.adr in addresses and asked in ((CID1, ANALOG, 2), (CID1, PARAMETERS, 0))
             question = Question(event.adr, event.cid2, command) if ours else None
         elif question is not None:
             reply = hanuzak.read_reply(table, len(table), question, store, 16 + event.lenid)
@@ -132,7 +165,12 @@ def main():
             else:
                 for module in table:
                     if question.command == GROUP or question.adr == module.adr:
-                        print(f"at {at}: {reading(hanuzak, module)}", flush=True)
+                        # cells that were read before stand beside a module's first limits only: else they were held to others
+                        fresh = question.cid2 == ANALOG or (module.adr, PARAMETERS) not in read
+                        read.add((module.adr, question.cid2))
+                        told = reading if question.cid2 == ANALOG else limits_of
+                        both = fresh and {(module.adr, ANALOG), (module.adr, PARAMETERS)} <= read
+                        print(f"at {at}: {told(hanuzak, module)}" + (f"; {held(module)}" if both else ""), flush=True)
             question = None
 
 

@@ -5,7 +5,7 @@ use Prim.Native.Nat.{ℕ}
 use lib.Dec.{T, eqb, eqb→eq}
 use Rattle.buffer.proofs.Lists.{never, by-cond}
 use Rattle.command.specs.declared.Kind.{Kind}
-use Rattle.command.specs.declared.Kind.the-variants.{Analog, AnalogGroup, Alarm, AlarmGroup, Protocol, Maker, Limits, Serial, TurnOff, Version, Unserved}
+use Rattle.command.specs.declared.Kind.the-variants.{Analog, AnalogGroup, Alarm, AlarmGroup, Parameters, Protocol, Maker, Limits, Serial, TurnOff, Version, Unserved}
 use Rattle.command.specs.Command.{Form, kindOf, formOf, paper, termsOf}
 
 -- with a Command that is FFH for the two group forms, and any other for the rest
@@ -15,6 +15,7 @@ kind-back Analog command e = rw e
 kind-back AnalogGroup command e = rw e
 kind-back Alarm command e = rw e
 kind-back AlarmGroup command e = rw e
+kind-back Parameters command e = rw e
 kind-back Protocol command e = rw e
 kind-back Maker command e = rw e
 kind-back Limits command e = rw e
@@ -38,19 +39,20 @@ kind-one a b e =
 at : (P : ℕ → Kind → Type 0) (cid2 n : ℕ) (k : Kind) → P n k → T (eqb cid2 n) → P cid2 k
 at P cid2 n k p t = subst (λ (x : ℕ). P x k) (sym (eqb→eq cid2 n t)) p
 
-module _ (P : ℕ → Kind → Type 0) (p42 : P 0x42 Analog) (p44 : P 0x44 Alarm) (p4F : P 0x4F Protocol) (p51 : P 0x51 Maker) (p92 : P 0x92 Limits) (p93 : P 0x93 Serial) (p95 : P 0x95 TurnOff) (p96 : P 0x96 Version)
+module _ (P : ℕ → Kind → Type 0) (p42 : P 0x42 Analog) (p44 : P 0x44 Alarm) (p47 : P 0x47 Parameters) (p4F : P 0x4F Protocol) (p51 : P 0x51 Maker) (p92 : P 0x92 Limits) (p93 : P 0x93 Serial) (p95 : P 0x95 TurnOff) (p96 : P 0x96 Version)
     (other : (cid2 : ℕ) → P cid2 Unserved) where
   pub by-cid2 : (cid2 : ℕ) → P cid2 (kindOf cid2)
   unfolding kindOf
   by-cid2 cid2 =
       by-cond (P cid2) (eqb cid2 0x42) (at P cid2 0x42 Analog p42)
       (λ _. by-cond (P cid2) (eqb cid2 0x44) (at P cid2 0x44 Alarm p44)
+      (λ _. by-cond (P cid2) (eqb cid2 0x47) (at P cid2 0x47 Parameters p47)
       (λ _. by-cond (P cid2) (eqb cid2 0x4F) (at P cid2 0x4F Protocol p4F)
       (λ _. by-cond (P cid2) (eqb cid2 0x51) (at P cid2 0x51 Maker p51)
       (λ _. by-cond (P cid2) (eqb cid2 0x92) (at P cid2 0x92 Limits p92)
       (λ _. by-cond (P cid2) (eqb cid2 0x93) (at P cid2 0x93 Serial p93)
       (λ _. by-cond (P cid2) (eqb cid2 0x95) (at P cid2 0x95 TurnOff p95)
-      (λ _. by-cond (P cid2) (eqb cid2 0x96) (at P cid2 0x96 Version p96) (λ _. other cid2))))))))
+      (λ _. by-cond (P cid2) (eqb cid2 0x96) (at P cid2 0x96 Version p96) (λ _. other cid2)))))))))
 
 -- what a served CID2 asks for, with a Command
 pub form-paper : (cid2 command : ℕ) → termsOf (kindOf cid2) .served ≡ true
@@ -62,6 +64,7 @@ form-paper cid2 command =
     λ c k. termsOf k .served ≡ true → paper (cond group (cond (eqb c 0x42) AnalogGroup (cond (eqb c 0x44) AlarmGroup k)) k) ≡ record { cid2 = c; group = group && termsOf k .«has_group» } in
     by-cid2 P
     (λ e. either group Analog AnalogGroup true refl refl) (λ e. either group Alarm AlarmGroup true refl refl)
+    (λ e. either group Parameters Parameters false refl refl)
     (λ e. either group Protocol Protocol false refl refl) (λ e. either group Maker Maker false refl refl)
     (λ e. either group Limits Limits false refl refl) (λ e. either group Serial Serial false refl refl)
     (λ e. either group TurnOff TurnOff false refl refl) (λ e. either group Version Version false refl refl)

@@ -1,22 +1,23 @@
--- The eight commands served under CID1 46H: 42, 44, 4F, 51, 92, 93, 95, 96 (hex). LENID is 0 for 4F and 51, otherwise 2.
+-- The nine commands served under CID1 46H: 42, 44, 47, 4F, 51, 92, 93, 95, 96 (hex). LENID is 0 for 47, 4F and 51, otherwise 2.
 use mathlib.Core.Bool.{Bool, true, false, cond}
 use Prim.Native.Nat.{ℕ}
 use lib.Dec.{eqb}
 use Rattle.command.specs.declared.Kind.{Kind}
-use Rattle.command.specs.declared.Kind.the-variants.{Analog, AnalogGroup, Alarm, AlarmGroup, Protocol, Maker, Limits, Serial, TurnOff, Version, Unserved}
+use Rattle.command.specs.declared.Kind.the-variants.{Analog, AnalogGroup, Alarm, AlarmGroup, Parameters, Protocol, Maker, Limits, Serial, TurnOff, Version, Unserved}
 use Rattle.command.specs.declared.Terms.{Terms}
 
 unfoldable pub kindOf : ℕ → Kind
 kindOf cid2 =
     cond (eqb cid2 0x42) Analog
     (cond (eqb cid2 0x44) Alarm
+    (cond (eqb cid2 0x47) Parameters
     (cond (eqb cid2 0x4F) Protocol
     (cond (eqb cid2 0x51) Maker
     (cond (eqb cid2 0x92) Limits
     (cond (eqb cid2 0x93) Serial
     (cond (eqb cid2 0x95) TurnOff
     (cond (eqb cid2 0x96) Version
-    Unserved)))))))
+    Unserved))))))))
 
 -- 42H and 44H with Command FFH ask for the whole group
 unfoldable pub formOf : ℕ → ℕ → Kind
@@ -38,6 +39,7 @@ paper Analog = form 0x42 false
 paper AnalogGroup = form 0x42 true
 paper Alarm = form 0x44 false
 paper AlarmGroup = form 0x44 true
+paper Parameters = form 0x47 false
 paper Protocol = form 0x4F false
 paper Maker = form 0x51 false
 paper Limits = form 0x92 false
@@ -59,6 +61,7 @@ termsOf Analog = withCommand true
 termsOf AnalogGroup = withCommand true
 termsOf Alarm = withCommand true
 termsOf AlarmGroup = withCommand true
+termsOf Parameters = plainTerms true true
 termsOf Protocol = plainTerms true false
 termsOf Maker = plainTerms true true
 termsOf Limits = withCommand false

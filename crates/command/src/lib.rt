@@ -13,6 +13,7 @@ pub enum Kind {
     AnalogGroup,
     Alarm,
     AlarmGroup,
+    Parameters,
     Protocol,
     Maker,
     Limits,
@@ -46,6 +47,7 @@ pub fn kind_of(cid2: u8) -> Kind
     match cid2 {
         0x42 => Kind::Analog,
         0x44 => Kind::Alarm,
+        0x47 => Kind::Parameters,
         0x4F => Kind::Protocol,
         0x51 => Kind::Maker,
         0x92 => Kind::Limits,
@@ -101,7 +103,7 @@ pub fn terms_of(kind: Kind) -> Terms
         Kind::Analog | Kind::AnalogGroup | Kind::Alarm | Kind::AlarmGroup => with_command(true),
         Kind::Limits | Kind::Serial | Kind::TurnOff | Kind::Version => with_command(false),
         Kind::Protocol => plain(true, false),
-        Kind::Maker => plain(true, true),
+        Kind::Parameters | Kind::Maker => plain(true, true),
         Kind::Unserved => plain(false, true),
     }
 }

@@ -54,7 +54,7 @@ module _ (ms : List Module) (adr : ℕ) (info : List ℕ) where
       let group = eqb command 0xFF in
       let n = nothing-took in
       by-cid2 (λ (c : ℕ) (k : Kind). carriesRecords c ≡ false → Same (cond group (cond (eqb c 0x42) AnalogGroup (cond (eqb c 0x44) AlarmGroup k)) k))
-      (λ e. never (cc)) (λ e. never (cc)) (λ e. either group Protocol (n .0)) (λ e. either group Maker (n .1 .0))
+      (λ e. never (cc)) (λ e. never (cc)) (λ e. never (cc)) (λ e. either group Protocol (n .0)) (λ e. either group Maker (n .1 .0))
       (λ e. never (cc)) (λ e. never (cc)) (λ e. either group TurnOff (n .1 .1 .0)) (λ e. never (cc))
       (λ c e. let z = none-of (eqb c 0x42) (eqb c 0x44) _ e in rw (z .0, z .1) (either group Unserved (n .1 .1 .1))) cid2
 

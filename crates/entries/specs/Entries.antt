@@ -20,9 +20,9 @@ pub record Serves (left : Left) (r : Served) (out′ : List ℕ) : Type 0 where
   pub off : r .off ≡ left .off
   pub out : out′ ≡ left .out
 
--- the replies to 42H, 44H, 92H, 93H and 96H carry records
+-- the replies to 42H, 44H, 47H, 92H, 93H and 96H carry records
 unfoldable pub carriesRecords : ℕ → Bool
-carriesRecords cid2 = eqb cid2 0x42 || (eqb cid2 0x44 || (eqb cid2 0x92 || (eqb cid2 0x93 || eqb cid2 0x96)))
+carriesRecords cid2 = eqb cid2 0x42 || (eqb cid2 0x44 || (eqb cid2 0x47 || (eqb cid2 0x92 || (eqb cid2 0x93 || eqb cid2 0x96))))
 
 -- and change them where they are read with code 00H
 abbrev pub changesRecords : ℕ → FlatReply → Bool

@@ -65,7 +65,8 @@ pub struct ReadReply {
 fn carries_records(cid2: u8) -> bool
     ensures { λ r. ⌜ r ≡ carriesRecords cid2 ⌝ }
 {
-    (cid2 == 0x42) | ((cid2 == 0x44) | ((cid2 == 0x92) | ((cid2 == 0x93) | (cid2 == 0x96))))
+    (cid2 == 0x42)
+        | ((cid2 == 0x44) | ((cid2 == 0x47) | ((cid2 == 0x92) | ((cid2 == 0x93) | (cid2 == 0x96)))))
 }
 
 // How many records are to be stored. None where none changes: a record that is stored again has the same values, but the bytes between its

@@ -1,15 +1,22 @@
-// Readers of the whole INFO of a reply that has a fixed length: 92H, 93H and 96H (Command, the record), 51H, and 4FH and 95H, which have none.
+// Readers of the whole INFO of a reply that has a fixed length: 47H (flag, the record), 92H, 93H and 96H (Command, the record), 51H, and 4FH and 95H, which have none.
 // INFO is lent as its hex characters. Refusals come in the order of the bytes: 16 and 21 before the record's own, 17 last; then every value is 0.
 
 ghost use mathlib.Core.Path.{_≡_};
 ghost use Rattle.hex.specs.Hex.{unhexes};
-ghost use Rattle.record.specs.Infos.{limitsInfo, serialInfo, versionInfo, makerInfo, emptyInfo};
-ghost use Rattle.record.specs.Nothing.{noLimits, noSerial, noVersion, noMaker};
-ghost use Rattle.parts.specs.Took.{paper, taken, unflagged, bare};
+ghost use Rattle.record.specs.Infos.{parametersInfo, limitsInfo, serialInfo, versionInfo, makerInfo, emptyInfo};
+ghost use Rattle.record.specs.Nothing.{noParameters, noLimits, noSerial, noVersion, noMaker};
+ghost use Rattle.parts.specs.Took.{paper, taken, flagAlone, unflagged, bare};
+use fields::Next;
 use parts::front::Taken;
 use parts::reading::Reading;
 use record::Limits;
+use record::Parameters;
 use refusal::Refusal;
+
+pub struct ParametersTaken {
+    pub taken: Taken,
+    pub parameters: Parameters,
+}
 
 pub struct LimitsTaken {
     pub taken: Taken,
@@ -29,6 +36,42 @@ pub struct VersionTaken {
 pub struct MakerTaken {
     pub taken: Taken,
     pub maker: [u8; 32],
+}
+
+// ---- 47H
+
+fn no_parameters(why: Refusal) -> ParametersTaken
+    ensures { λ r. ⌜ r ≡ record { taken = Taken.Refused why; parameters = noParameters } ⌝ }
+{
+    let parameters = record::zero_parameters();
+    ParametersTaken {
+        taken: Taken::Refused(why),
+        parameters: parameters,
+    }
+}
+
+// The INFO of 47H.
+pub fn take_parameters(info: &[u8]) -> ParametersTaken
+    ensures { λ r. ⌜ paper (r .taken) (r .parameters) ≡ taken noParameters flagAlone (parametersInfo .get (unhexes (now (info .entry)))) ⌝ }
+{
+    let Next::Field(flag, at) = fields::field(info, 0, 1) else {
+        return no_parameters(Refusal::InfoEnds);
+    };
+    let found = crate::reader::read_parameters(info, at);
+    let reading = found.reading;
+    match reading {
+        Reading::Refused(why) => no_parameters(why),
+        Reading::Read(next) => {
+            if next < parts::front::byte_count(info) {
+                return no_parameters(Refusal::BytesLeftOver);
+            }
+            let parameters = found.parameters;
+            ParametersTaken {
+                taken: Taken::Taken(flag as u8),
+                parameters: parameters,
+            }
+        }
+    }
 }
 
 // ---- 92H

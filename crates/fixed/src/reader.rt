@@ -1,17 +1,75 @@
-// Readers of the records that 92H, 93H, 96H and 51H carry, at a place of INFO.
+// Readers of the records that 47H, 92H, 93H, 96H and 51H carry, at a place of INFO.
 // What is read depends on INFO and the place alone. On a refusal every field is 0.
 
 ghost use mathlib.Core.Path.{_≡_};
 ghost use Rattle.hex.specs.Hex.{unhexes};
 ghost use Rattle.codec.specs.Reading.{reads};
 ghost use Rattle.record.specs.Limits.{limits};
+ghost use Rattle.record.specs.Parameters.{parameters};
 ghost use Rattle.record.specs.Texts.{serial, version, maker};
 ghost use Rattle.parts.specs.Readings.{paper};
-ghost use Rattle.record.specs.Nothing.{noLimits, noSerial, noVersion, noMaker};
+ghost use Rattle.fixed.specs.Words.{ofWords};
+ghost use Rattle.record.specs.Nothing.{noParameters, noLimits, noSerial, noVersion, noMaker};
 use fields::Next;
 use parts::reading::Reading;
 use record::Limits;
+use record::Parameters;
 use refusal::Refusal;
+
+// ---- 47H
+
+pub struct ParametersRead {
+    pub reading: Reading,
+    pub parameters: Parameters,
+}
+
+fn no_parameters(why: Refusal) -> ParametersRead
+    ensures { λ r. ⌜ r ≡ record { reading = Reading.Refused why; parameters = noParameters } ⌝ }
+{
+    let parameters = record::zero_parameters();
+    ParametersRead {
+        reading: Reading::Refused(why),
+        parameters: parameters,
+    }
+}
+
+// The twelve words of a 47H record, in its order; the module's voltages are unsigned.
+fn parameters_of(words: [i16; 12]) -> Parameters
+    ensures { λ r. ⌜ r ≡ ofWords words ⌝ }
+{
+    Parameters {
+        cell_high_voltage: words[0],
+        cell_low_voltage: words[1],
+        cell_under_voltage: words[2],
+        charge_high_temperature: words[3],
+        charge_low_temperature: words[4],
+        charge_current: words[5],
+        module_high_voltage: record::word_of(words[6]),
+        module_low_voltage: record::word_of(words[7]),
+        module_under_voltage: record::word_of(words[8]),
+        discharge_high_temperature: words[9],
+        discharge_low_temperature: words[10],
+        discharge_current: words[11],
+    }
+}
+
+// A 47H record.
+pub fn read_parameters(info: &[u8], at: usize) -> ParametersRead
+    ensures { λ r. ⌜ paper (r .reading) (r .parameters) ≡ reads parameters noParameters (unhexes (now (info .entry))) at ⌝ }
+{
+    let mut words = [0i16; 12];
+    let filled = parts::reading::fill_signed(info, at, &mut words);
+    match filled {
+        Reading::Refused(why) => no_parameters(why),
+        Reading::Read(next) => {
+            let parameters = parameters_of(words);
+            ParametersRead {
+                reading: Reading::Read(next),
+                parameters: parameters,
+            }
+        }
+    }
+}
 
 // ---- 92H
 

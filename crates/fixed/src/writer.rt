@@ -1,15 +1,66 @@
-// Writers of the INFO that 92H, 93H and 96H carry, as bytes with Command = ADR in front.
+// Writers of the INFO that 47H, 92H, 93H and 96H carry, as bytes: with 47H the flag is in front, with the others Command = ADR.
 
+ghost use mathlib.Core.Path.{_≡_};
 ghost use Rattle.buffer.specs.Put.{Room, Put};
 ghost use Rattle.buffer.specs.Writing.{Writes};
 ghost use Rattle.record.specs.Limits.{limits as limitsRecord};
+ghost use Rattle.record.specs.Parameters.{parameters as parametersRecord};
 ghost use Rattle.record.specs.Texts.{serial as serialRecord, version as versionRecord};
-ghost use Rattle.record.specs.Infos.{limitsInfo, serialInfo, versionInfo};
+ghost use Rattle.record.specs.Infos.{parametersInfo, limitsInfo, serialInfo, versionInfo};
 ghost use Rattle.parts.specs.Records.{recordWriting};
+ghost use Rattle.fixed.specs.Words.{wordsOf};
 use buffer::Written;
 use record::Limits;
 use record::Module;
+use record::Parameters;
 use refusal::Refusal;
+
+// ---- 47H
+
+// The twelve words of a 47H record, in its order.
+fn words_of(parameters: Parameters) -> [i16; 12]
+    ensures { λ r. ⌜ r ≡ wordsOf parameters ⌝ }
+{
+    [
+        parameters.cell_high_voltage,
+        parameters.cell_low_voltage,
+        parameters.cell_under_voltage,
+        parameters.charge_high_temperature,
+        parameters.charge_low_temperature,
+        parameters.charge_current,
+        record::signed(parameters.module_high_voltage),
+        record::signed(parameters.module_low_voltage),
+        record::signed(parameters.module_under_voltage),
+        parameters.discharge_high_temperature,
+        parameters.discharge_low_temperature,
+        parameters.discharge_current,
+    ]
+}
+
+// A 47H record.
+fn put_parameters(out: &mut [u8], at: usize, parameters: Parameters) -> usize
+    requires { ⌜ Room (now out) at (parametersRecord .put parameters) ⌝ }
+    ensures { λ r. ⌜ Put (now (out .entry)) at (parametersRecord .put parameters) (now (out .exit)) r ⌝ }
+{
+    let words = words_of(parameters);
+    parts::writing::put_all_signed(out, at, &words)
+}
+
+// The INFO of 47H: the flag and the record, 25 bytes.
+pub fn write_parameters(out: &mut [u8], flag: u8, given: Module) -> Written
+    ensures { λ r. ⌜ Writes (recordWriting (given .adr) parametersInfo (flag, given .parameters) (now (out .entry))) r (now (out .exit)) ⌝ }
+{
+    if !record::is_address(given.adr) {
+        return Written::Refused(Refusal::NotEncodable);
+    }
+    if out.len() < 25 {
+        return Written::Refused(Refusal::BufferTooShort);
+    }
+    let at = buffer::put(out, 0, flag);
+    let parameters = given.parameters;
+    let end = put_parameters(out, at, parameters);
+    Written::Wrote(end)
+}
 
 // ---- 92H
 

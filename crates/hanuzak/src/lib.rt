@@ -6,7 +6,7 @@ ghost use lib.ListN.{getD, set};
 ghost use Rattle.frame.specs.Judge.{judge};
 ghost use Rattle.frame.specs.Write.{framed};
 ghost use Rattle.record.specs.Meanings.{milliampsOf, tenthsCelsiusOf};
-ghost use Rattle.record.specs.Infos.{analogInfo, alarmInfo, limitsInfo, serialInfo, versionInfo};
+ghost use Rattle.record.specs.Infos.{analogInfo, alarmInfo, limitsInfo, serialInfo, versionInfo, parametersInfo};
 ghost use Rattle.parts.specs.Records.{recordWriting};
 ghost use Rattle.table.specs.Table.{newModule};
 ghost use Rattle.table.specs.Rule.{rule};
@@ -234,6 +234,14 @@ pub extern "C" fn hanuzak_write_alarm(given: Module, flag: u8, out: &mut [u8]) -
     ensures { λ r. ⌜ FlatWrites (recordWriting (given .adr) (alarmInfo (given .adr)) ((flag, given .adr), given .alarm) (now (out .entry))) r (now (out .exit)) ⌝ }
 {
     flat::written(alarm::writer::write_alarm(out, flag, given))
+}
+
+// INFO of 47H: 33, then 32.
+#[no_mangle]
+pub extern "C" fn hanuzak_write_parameters(given: Module, flag: u8, out: &mut [u8]) -> FlatWritten
+    ensures { λ r. ⌜ FlatWrites (recordWriting (given .adr) parametersInfo (flag, given .parameters) (now (out .entry))) r (now (out .exit)) ⌝ }
+{
+    flat::written(fixed::writer::write_parameters(out, flag, given))
 }
 
 // INFO of 92H: 33, then 32.

@@ -114,6 +114,45 @@ fn limits(name: &[u8], info: &[u8]) {
     io::write_all(STDOUT_FILENO, b"\n");
 }
 
+fn print_three(key: &[u8], first: u16, second: u16, third: u16) {
+    print_number(key, first as u64);
+    print_number(b" ", second as u64);
+    print_number(b" ", third as u64);
+}
+
+// Reads the INFO of a 47H reply and prints its twelve words.
+fn parameters(name: &[u8], info: &[u8]) {
+    let found = fixed::info::take_parameters(info);
+    let taken = found.taken;
+    let parameters = found.parameters;
+    print_taken(name, taken);
+    print_three(
+        b" cell ",
+        record::word_of(parameters.cell_high_voltage),
+        record::word_of(parameters.cell_low_voltage),
+        record::word_of(parameters.cell_under_voltage),
+    );
+    print_three(
+        b" charge ",
+        record::word_of(parameters.charge_high_temperature),
+        record::word_of(parameters.charge_low_temperature),
+        record::word_of(parameters.charge_current),
+    );
+    print_three(
+        b" module ",
+        parameters.module_high_voltage,
+        parameters.module_low_voltage,
+        parameters.module_under_voltage,
+    );
+    print_three(
+        b" discharge ",
+        record::word_of(parameters.discharge_high_temperature),
+        record::word_of(parameters.discharge_low_temperature),
+        record::word_of(parameters.discharge_current),
+    );
+    io::write_all(STDOUT_FILENO, b"\n");
+}
+
 // Short frames, and stretches that are none.
 fn frames() {
     hear(b"check FD32:", b"~21024642E00202FD32\r");
@@ -138,9 +177,21 @@ fn longest() {
     hear(b"4111 characters and CR:", &long);
 }
 
-// INFOs of 92H and 42H.
+// INFOs of 92H, 47H and 42H.
 fn records() {
     limits(b"92H:", b"02D002B79800FA00FAC0");
+    parameters(
+        b"47H:",
+        b"000E740BEA0B540C9F0AAB00FAD002B798ADD40D030A47FF06",
+    );
+    parameters(
+        b"47H, a byte short:",
+        b"000E740BEA0B540C9F0AAB00FAD002B798ADD40D030A47FF",
+    );
+    parameters(
+        b"47H, a byte more:",
+        b"000E740BEA0B540C9F0AAB00FAD002B798ADD40D030A47FF0600",
+    );
     analog(b"total 65,000:", b"0002010D45010BAA0000C350FDE802FDE80007");
     analog(
         b"total 65,001, items 2:",

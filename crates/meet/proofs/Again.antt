@@ -23,17 +23,17 @@ use Rattle.record.specs.Analog.{analog}
 use Rattle.record.specs.Alarm.{alarm}
 use Rattle.record.specs.Limits.{limits}
 use Rattle.record.specs.Texts.{serial, version, maker as makerRecord}
-use Rattle.record.specs.Infos.{Front, analogInfo, alarmInfo, limitsInfo, serialInfo, versionInfo, some-analog, some-alarm, analogGroup, alarmGroup, makerInfo, emptyInfo}
+use Rattle.record.specs.Infos.{Front, parametersInfo, analogInfo, alarmInfo, limitsInfo, serialInfo, versionInfo, some-analog, some-alarm, analogGroup, alarmGroup, makerInfo, emptyInfo}
 use Rattle.table.proofs.rule.Fine.{keeps-parts}
 use Rattle.table.specs.declared.Station.{Station}
 use Rattle.table.specs.declared.Table.{Table}
 use Rattle.table.specs.Table.{members, placeOf, hasMember, memberAt, isOn, countOn}
 use Rattle.table.specs.Rule.{keeps}
-use Rattle.table.specs.Changes.{replaced, dealt, withAnalog, withAlarm, withLimits, withSerial, withVersion}
+use Rattle.table.specs.Changes.{replaced, dealt, withAnalog, withAlarm, withLimits, withSerial, withVersion, withParameters}
 use Rattle.groups.specs.Groups.{valuesOn}
 use Rattle.command.specs.declared.Kind.{Kind}
-use Rattle.command.specs.declared.Kind.the-variants.{Analog, AnalogGroup, Alarm, AlarmGroup, Protocol, Maker, Limits, Serial, TurnOff, Version, Unserved}
-use Rattle.command.specs.Command.{formOf}
+use Rattle.command.specs.declared.Kind.the-variants.{Analog, AnalogGroup, Alarm, AlarmGroup, Parameters, Protocol, Maker, Limits, Serial, TurnOff, Version, Unserved}
+use Rattle.command.specs.Command.{kindOf, formOf, termsOf}
 use Rattle.command.specs.Heard.{Words, words}
 use Rattle.standin.specs.Says.{Code}
 use Rattle.standin.specs.declared.Answered.the-variants.{Reply}
@@ -84,6 +84,16 @@ module _ (ms : List Module) (adr : ℕ) (there : placeOf adr ms < length ms) (in
           let value = member-then (x .1) (ap (λ (d : Data). d .1 .1) (v .2)) in
           (λ i. w .put ((sym flag i, sym (command-is x (b .1)) i), value i)) ∙ sym (b .0)
 
+      alone-again : (w : Whole (ℕ × A))
+          → mapped {B = Data} (w .get info) (λ x. (x .0, (noMaker, replaced adr (with (x .1)) ms))) ≡ told (0, (maker, ns)) → w .put (0, part (memberAt adr ns)) ≡ info
+      alone-again w e =
+          let v = mapped-inv (w .get info) _ (0, (maker, ns)) e in
+          let x = v .0 in
+          let b = w .back info x bytes (v .1) in
+          let flag : x .0 ≡ 0 = ap (λ (d : Data). d .0) (v .2) in
+          let value = member-then (x .1) (ap (λ (d : Data). d .1 .1) (v .2)) in
+          (λ i. w .put (sym flag i, value i)) ∙ sym (b .0)
+
       bare-again : (w : Whole (ℕ × A)) → ((x : ℕ × A) → T (w .ok x) → x .0 ≡ adr)
           → mapped {B = Data} (w .get info) (λ x. (0, (noMaker, replaced adr (with (x .1)) ms))) ≡ told (0, (maker, ns)) → w .put (adr, part (memberAt adr ns)) ≡ info
       bare-again w command-is e =
@@ -123,11 +133,12 @@ module _ (ms : List Module) (adr : ℕ) (there : placeOf adr ms < length ms) (in
       sym (makerInfo .back info (v .0) bytes (v .1) .0 ∙ row-bytes byte (λ a. refl) (v .0) ∙ ap (λ (d : Data). d .1 .0) (v .2))
 
   info-again : (st : Station) (k : Kind) → (k ≡ Maker → st .maker ≡ maker) → took k ms adr info ≡ told (0, (maker, ns)) → infoBy k st ns adr ≡ info
-  unfolding took infoBy analogInfo alarmInfo limitsInfo serialInfo versionInfo analogGroup alarmGroup
+  unfolding took infoBy analogInfo alarmInfo limitsInfo serialInfo versionInfo analogGroup alarmGroup parametersInfo
   info-again st Analog same e = flag-again withAnalog (λ m. m .analog) (λ a m. refl) (λ a m. refl) (analogInfo adr) (after-flag adr (ended analog)) e
   info-again st AnalogGroup same e = group-again withAnalog (λ m. m .analog) (λ a m. refl) (λ a m. refl) analogGroup (after-flag 0xFF (many analog some-analog 12)) e
   info-again st Alarm same e = flag-again withAlarm (λ m. m .alarm) (λ a m. refl) (λ a m. refl) (alarmInfo adr) (after-flag adr (ended alarm)) e
   info-again st AlarmGroup same e = group-again withAlarm (λ m. m .alarm) (λ a m. refl) (λ a m. refl) alarmGroup (after-flag 0xFF (many alarm some-alarm 12)) e
+  info-again st Parameters same e = alone-again withParameters (λ m. m .parameters) (λ a m. refl) (λ a m. refl) parametersInfo e
   info-again st Protocol same e = nothing-again e
   info-again st Maker same e = same refl ∙ maker-again e
   info-again st Limits same e = bare-again withLimits (λ m. m .limits) (λ a m. refl) (λ a m. refl) (limitsInfo adr) (at-first adr (ended limits)) e
@@ -227,7 +238,7 @@ module _ (t : Table) (q : Question) (c : List ℕ) (reading : Reading) (reads : 
 -- the question itself, asked again, is such a stretch, where its member is on and no link fault is in its way
 pub asked-again : (t : Table) (q : Question) (c : List ℕ) (reading : Reading) → Reads (readReply (keeps t) (members t) q c) t reading → keeps t ≡ true → asks q ≡ true
     → (st : Station) → reading .outcome ≡ Read (st .ver) 0 0 → (formOf (q .cid2) (q .command) ≡ Maker → st .maker ≡ reading .maker) → AskedBytes (st .ver) q
-    → let ns = members (reading .table) in isOn (memberAt (q .adr) ns) ≡ true → faultFor (q .command) ns (q .adr) ≡ false → Again q reading st (asking (st .ver) q)
+    → let ns = members (reading .table) in isOn (memberAt (q .adr) ns) ≡ true → (termsOf (kindOf (q .cid2)) .«has_command» ≡ true → faultFor (q .command) ns (q .adr) ≡ false) → Again q reading st (asking (st .ver) q)
 asked-again t q c reading reads kept asked st was-read same-maker bytes on none =
     record {
       was-read = was-read;

@@ -19,7 +19,7 @@ use Rattle.table.specs.declared.Station.{Station}
 use Rattle.table.specs.Table.{isOn, isMaster, memberAt}
 use Rattle.table.specs.Rule.{rule}
 use Rattle.command.specs.declared.Kind.{Kind}
-use Rattle.command.specs.declared.Kind.the-variants.{Analog, AnalogGroup, Alarm, AlarmGroup, Protocol, Maker, Limits, Serial, TurnOff, Version, Unserved}
+use Rattle.command.specs.declared.Kind.the-variants.{Analog, AnalogGroup, Alarm, AlarmGroup, Parameters, Protocol, Maker, Limits, Serial, TurnOff, Version, Unserved}
 use Rattle.command.specs.Command.{kindOf, formOf, termsOf}
 use Rattle.command.specs.Heard.{Words, numberOf, words}
 use Rattle.standin.specs.Says.{Code, decide}
@@ -37,6 +37,7 @@ lenid-asked Analog command = refl
 lenid-asked AnalogGroup command = refl
 lenid-asked Alarm command = refl
 lenid-asked AlarmGroup command = refl
+lenid-asked Parameters command = refl
 lenid-asked Protocol command = refl
 lenid-asked Maker command = refl
 lenid-asked Limits command = refl
@@ -104,7 +105,7 @@ module _ (ver : ℕ) (q : Question) (bytes : AskedBytes ver q) where
       by-command false e = plain-form (q .cid2) (q .command) e ∙ sym (plain-form (q .cid2) (byteAt (asking ver q) 12) e)
 
   -- with the table's VER, at a member that is on, and no link fault in its way: 00H
-  module _ (st : Station) (same-ver : ver ≡ st .ver) (ms : List Module) (kept : rule ms ≡ true) (on : isOn (memberAt (q .adr) ms) ≡ true) (none : faultFor (q .command) ms (q .adr) ≡ false)
+  module _ (st : Station) (same-ver : ver ≡ st .ver) (ms : List Module) (kept : rule ms ≡ true) (on : isOn (memberAt (q .adr) ms) ≡ true) (none : termsOf (kindOf (q .cid2)) .«has_command» ≡ true → faultFor (q .command) ms (q .adr) ≡ false)
       (asked : asks q ≡ true) where
     not-255 : (x : ℕ) → eqb x 0xFF ≡ true → eqb x (q .adr) ≡ true → ⊥
     unfolding isAddress
@@ -130,4 +131,4 @@ module _ (ver : ℕ) (q : Question) (bytes : AskedBytes ver q) where
         ap (decide st ms) (sym question-words)
         ∙ rw (on, p .0, eq-eqb ver (st .ver) same-ver, and-false (t .«same_ver»), eq-eqb (2 * length (questionInfo q)) (t .lenid) (lenid-asked (kindOf (q .cid2)) (q .command)))
         (column-end (t .«has_command») (eqb x 0xFF) (eqb x (q .adr)) (t .«has_group» && isMaster (q .adr)) (faultFor x ms (q .adr)) (fits (p .1) (t .«has_command») refl) (not-255 x)
-        (λ e. ap (λ (y : ℕ). faultFor y ms (q .adr)) (command-at e) ∙ none))
+        (λ e. ap (λ (y : ℕ). faultFor y ms (q .adr)) (command-at e) ∙ none e))

@@ -20,16 +20,17 @@ use Rattle.record.specs.declared.Module.{Module}
 use Rattle.record.specs.Analog.{analog}
 use Rattle.record.specs.Alarm.{alarm}
 use Rattle.record.specs.Limits.{limits}
+use Rattle.record.specs.Parameters.{parameters}
 use Rattle.record.specs.Texts.{serial, version, maker}
 use Rattle.record.specs.Infos.{command, analogInfo, alarmInfo, limitsInfo, serialInfo, versionInfo, some-analog, some-alarm, analogGroup, alarmGroup}
-use Rattle.record.specs.Infos.{makerInfo, emptyInfo}
+use Rattle.record.specs.Infos.{parametersInfo, makerInfo, emptyInfo}
 use Rattle.table.specs.declared.Station.{Station}
 use Rattle.table.specs.Table.{isOn, memberAt, oneIf, countOn}
 use Rattle.table.specs.Rule.{rising, rule}
 use Rattle.table.proofs.rule.Fine.{Fine, fine-parts, rising-parts, rule-parts}
 use Rattle.groups.specs.Groups.{valuesOn, analogsOn, alarmsOn}
 use Rattle.command.specs.declared.Kind.{Kind}
-use Rattle.command.specs.declared.Kind.the-variants.{Analog, AnalogGroup, Alarm, AlarmGroup, Protocol, Maker, Limits, Serial, TurnOff, Version, Unserved}
+use Rattle.command.specs.declared.Kind.the-variants.{Analog, AnalogGroup, Alarm, AlarmGroup, Parameters, Protocol, Maker, Limits, Serial, TurnOff, Version, Unserved}
 use Rattle.command.specs.Command.{paper, termsOf}
 use Rattle.standin.specs.Answer.{infoBy}
 use Rattle.standin.proofs.Members.{member-fine}
@@ -39,7 +40,10 @@ use Rattle.meet.specs.Copied.{OfBytes, copied, makerFor, Alike}
 pub yes : {b : Bool} → b ≡ true → T b
 yes e = subst T (sym e) tt
 
--- ---- after flag 00H and Command, or Command alone, any record that can be encoded
+-- ---- after flag 00H and Command, the flag alone, or Command alone, any record that can be encoded
+after-flag-alone : {A : Type 0} (c : Codec A) (a : A) → c .ok a ≡ true → T (lead byte (λ x. ended c) .ok (0, a))
+after-flag-alone c a ok = rw ok tt
+
 module _ {A : Type 0} (c : Codec A) (a : A) (ok : c .ok a ≡ true) (adr : ℕ) (small : adr < 256) where
   after-flag : T (lead (byte then command adr) (λ x. ended c) .ok ((0, adr), a))
   after-flag = rw (eq-eqb adr adr refl, lt-ltb adr 256 small, ok) tt
@@ -100,6 +104,10 @@ module _ (st : Station) (bytes : OfBytes st) (ms : List Module) (keeps : rule ms
   unfolding alarmInfo m f
   alarm-ok = after-flag alarm (m .alarm) (f .alarm-ok) adr small
 
+  parameters-ok : T (parametersInfo .ok (0, memberAt adr ms .parameters))
+  unfolding parametersInfo m f
+  parameters-ok = after-flag-alone parameters (m .parameters) (f .parameters-ok)
+
   limits-ok : T (limitsInfo adr .ok (adr, memberAt adr ms .limits))
   unfolding limitsInfo m f
   limits-ok = after-command limits (m .limits) (f .limits-ok) adr small
@@ -126,6 +134,7 @@ module _ (st : Station) (bytes : OfBytes st) (ms : List Module) (keeps : rule ms
   data-bytes AnalogGroup = analogGroup .small ((0, 0xFF), analogsOn ms) analogs-ok
   data-bytes Alarm = alarmInfo adr .small ((0, adr), memberAt adr ms .alarm) alarm-ok
   data-bytes AlarmGroup = alarmGroup .small ((0, 0xFF), alarmsOn ms) alarms-ok
+  data-bytes Parameters = parametersInfo .small (0, memberAt adr ms .parameters) parameters-ok
   data-bytes Protocol = tt
   data-bytes Maker = bytes .maker
   data-bytes Limits = limitsInfo adr .small (adr, memberAt adr ms .limits) limits-ok
@@ -142,6 +151,7 @@ module _ (st : Station) (bytes : OfBytes st) (ms : List Module) (keeps : rule ms
     data-read AnalogGroup s a = rw (analogGroup .there ((0, 0xFF), analogsOn ms) analogs-ok, eq-eqb (length (analogsOn ms)) (countOn ms′) (on-count (λ x. x .analog) ms ∙ a tt))
     data-read Alarm s a = rw (alarmInfo adr .there ((0, adr), memberAt adr ms .alarm) alarm-ok)
     data-read AlarmGroup s a = rw (alarmGroup .there ((0, 0xFF), alarmsOn ms) alarms-ok, eq-eqb (length (alarmsOn ms)) (countOn ms′) (on-count (λ x. x .alarm) ms ∙ a tt))
+    data-read Parameters s a = rw (parametersInfo .there (0, memberAt adr ms .parameters) parameters-ok)
     data-read Protocol s a = refl
     data-read Maker s a = rw (maker-read (st .maker) (bytes .maker) (bytes .count))
     data-read Limits s a = rw (limitsInfo adr .there (adr, memberAt adr ms .limits) limits-ok)

@@ -16,7 +16,7 @@ use Rattle.table.specs.Table.{blank, isOn, placeOf, memberAt, oneIf, countOn}
 use Rattle.table.specs.Changes.{replaced, dealt, withAnalog, withAlarm}
 use Rattle.groups.specs.Groups.{valuesOn, analogsOn, alarmsOn}
 use Rattle.command.specs.declared.Kind.{Kind}
-use Rattle.command.specs.declared.Kind.the-variants.{Analog, AnalogGroup, Alarm, AlarmGroup, Protocol, Maker, Limits, Serial, TurnOff, Version, Unserved}
+use Rattle.command.specs.declared.Kind.the-variants.{Analog, AnalogGroup, Alarm, AlarmGroup, Parameters, Protocol, Maker, Limits, Serial, TurnOff, Version, Unserved}
 use Rattle.meet.specs.Copied.{copied}
 
 module _ {A : Type 0} (with : A → Module → Module) where
@@ -97,6 +97,7 @@ copied-same Analog adr ms = replaced-same adr _ ms refl
 copied-same AnalogGroup adr ms = dealt-same withAnalog (λ m. m .analog) (λ m. refl) ms
 copied-same Alarm adr ms = replaced-same adr _ ms refl
 copied-same AlarmGroup adr ms = dealt-same withAlarm (λ m. m .alarm) (λ m. refl) ms
+copied-same Parameters adr ms = replaced-same adr _ ms refl
 copied-same Protocol adr ms = refl
 copied-same Maker adr ms = refl
 copied-same Limits adr ms = replaced-same adr _ ms refl

@@ -12,14 +12,16 @@ use Rattle.record.specs.declared.Module.{Module}
 use Rattle.record.specs.declared.Analog.{Analog}
 use Rattle.record.specs.declared.Alarm.{Alarm}
 use Rattle.record.specs.declared.Limits.{Limits}
+use Rattle.record.specs.declared.Parameters.{Parameters}
 use Rattle.record.specs.Analog.{analog}
 use Rattle.record.specs.Alarm.{alarm}
 use Rattle.record.specs.Limits.{limits}
+use Rattle.record.specs.Parameters.{parameters}
 use Rattle.record.specs.Texts.{serial, version}
 use Rattle.table.proofs.rule.Fine.{Fine, fine-parts, rising-parts, rule-parts}
 use Rattle.table.specs.Table.{blank, isOn, placeOf, memberAt}
 use Rattle.table.specs.Rule.{encodable, fine, rising, rule}
-use Rattle.table.specs.Changes.{replaced, dealt, withAnalog, withAlarm, withLimits, withSerial, withVersion, switchedOff}
+use Rattle.table.specs.Changes.{replaced, dealt, withAnalog, withAlarm, withLimits, withSerial, withVersion, withParameters, switchedOff}
 use Rattle.standin.specs.Answer.{offAt}
 
 -- ---- records that keep their ADRs and stay fine
@@ -55,7 +57,7 @@ changed-first (m ∷ ms) (n ∷ ns) c = c .0 .0
 fine-whole : (m : Module) → Fine m → fine m ≡ true
 unfolding fine encodable
 fine-whole m f =
-    rw (f .address, le-leb (m .on) 1 (f .on), le-leb (m .«link_fault») 1 (f .fault), f .analog-ok, f .alarm-ok, f .limits-ok, f .serial-ok, f .version-ok)
+    rw (f .address, le-leb (m .on) 1 (f .on), le-leb (m .«link_fault») 1 (f .fault), f .analog-ok, f .alarm-ok, f .limits-ok, f .serial-ok, f .version-ok, f .parameters-ok)
 
 changed-rising : (group last : ℕ) (ms ns : List Module) → Changed ms ns → rising group last ms ≡ true → rising group last ns ≡ true
 unfolding rising
@@ -108,31 +110,37 @@ module _ {A : Type 0} (c : Codec A) (f : A → Module → Module) (safe : (a : A
 pub analog-safe : (a : Analog) → analog .ok a ≡ true → (m : Module) → Safe m (withAnalog a m)
 analog-safe a e m = (
   refl,
-  λ f. record { address = f .address; on = f .on; fault = f .fault; analog-ok = e; alarm-ok = f .alarm-ok; limits-ok = f .limits-ok; serial-ok = f .serial-ok; version-ok = f .version-ok },
+  λ f. record { address = f .address; on = f .on; fault = f .fault; analog-ok = e; alarm-ok = f .alarm-ok; limits-ok = f .limits-ok; serial-ok = f .serial-ok; version-ok = f .version-ok; parameters-ok = f .parameters-ok },
 )
 
 pub alarm-safe : (a : Alarm) → alarm .ok a ≡ true → (m : Module) → Safe m (withAlarm a m)
 alarm-safe a e m = (
   refl,
-  λ f. record { address = f .address; on = f .on; fault = f .fault; analog-ok = f .analog-ok; alarm-ok = e; limits-ok = f .limits-ok; serial-ok = f .serial-ok; version-ok = f .version-ok },
+  λ f. record { address = f .address; on = f .on; fault = f .fault; analog-ok = f .analog-ok; alarm-ok = e; limits-ok = f .limits-ok; serial-ok = f .serial-ok; version-ok = f .version-ok; parameters-ok = f .parameters-ok },
 )
 
 pub limits-safe : (l : Limits) → limits .ok l ≡ true → (m : Module) → Safe m (withLimits l m)
 limits-safe l e m = (
   refl,
-  λ f. record { address = f .address; on = f .on; fault = f .fault; analog-ok = f .analog-ok; alarm-ok = f .alarm-ok; limits-ok = e; serial-ok = f .serial-ok; version-ok = f .version-ok },
+  λ f. record { address = f .address; on = f .on; fault = f .fault; analog-ok = f .analog-ok; alarm-ok = f .alarm-ok; limits-ok = e; serial-ok = f .serial-ok; version-ok = f .version-ok; parameters-ok = f .parameters-ok },
 )
 
 pub serial-safe : (s : List ℕ) → serial .ok s ≡ true → (m : Module) → Safe m (withSerial s m)
 serial-safe s e m = (
   refl,
-  λ f. record { address = f .address; on = f .on; fault = f .fault; analog-ok = f .analog-ok; alarm-ok = f .alarm-ok; limits-ok = f .limits-ok; serial-ok = e; version-ok = f .version-ok },
+  λ f. record { address = f .address; on = f .on; fault = f .fault; analog-ok = f .analog-ok; alarm-ok = f .alarm-ok; limits-ok = f .limits-ok; serial-ok = e; version-ok = f .version-ok; parameters-ok = f .parameters-ok },
 )
 
 pub version-safe : (v : List ℕ) → version .ok v ≡ true → (m : Module) → Safe m (withVersion v m)
 version-safe v e m = (
   refl,
-  λ f. record { address = f .address; on = f .on; fault = f .fault; analog-ok = f .analog-ok; alarm-ok = f .alarm-ok; limits-ok = f .limits-ok; serial-ok = f .serial-ok; version-ok = e },
+  λ f. record { address = f .address; on = f .on; fault = f .fault; analog-ok = f .analog-ok; alarm-ok = f .alarm-ok; limits-ok = f .limits-ok; serial-ok = f .serial-ok; version-ok = e; parameters-ok = f .parameters-ok },
+)
+
+pub parameters-safe : (p : Parameters) → parameters .ok p ≡ true → (m : Module) → Safe m (withParameters p m)
+parameters-safe p e m = (
+  refl,
+  λ f. record { address = f .address; on = f .on; fault = f .fault; analog-ok = f .analog-ok; alarm-ok = f .alarm-ok; limits-ok = f .limits-ok; serial-ok = f .serial-ok; version-ok = f .version-ok; parameters-ok = e },
 )
 
 pub off-safe : (m : Module) → Safe m (switchedOff m)
@@ -147,6 +155,7 @@ off-safe m = (
     limits-ok = f .limits-ok;
     serial-ok = f .serial-ok;
     version-ok = f .version-ok;
+    parameters-ok = f .parameters-ok;
   },
 )
 

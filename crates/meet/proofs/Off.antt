@@ -20,6 +20,10 @@ use Rattle.standin.specs.Answer.{offFor, offAt}
 use Rattle.meet.specs.Off.{TurnedOff}
 use Rattle.meet.proofs.Kept.{Changed, set-changed, off-safe, off-rule}
 
+-- a module that is off already is the same switched off: only the mark changes
+pub off-already : (m : Module) → m .on ≡ 0 → switchedOff m ≡ m
+off-already m e i = record { adr = m .adr; on = sym e i; «link_fault» = m .«link_fault»; analog = m .analog; alarm = m .alarm; limits = m .limits; serial = m .serial; version = m .version; parameters = m .parameters }
+
 changed-place : (adr : ℕ) (ms ns : List Module) → Changed ms ns → placeOf adr ns ≡ placeOf adr ms
 unfolding placeOf
 changed-place adr [] [] c = refl

@@ -19,17 +19,18 @@ use Rattle.record.specs.declared.Module.{Module}
 use Rattle.record.specs.Analog.{analog}
 use Rattle.record.specs.Alarm.{alarm}
 use Rattle.record.specs.Limits.{limits}
+use Rattle.record.specs.Parameters.{parameters}
 use Rattle.record.specs.Texts.{serial, version}
 use Rattle.record.specs.Infos.{command, analogInfo, alarmInfo, limitsInfo, serialInfo, versionInfo, some-analog, some-alarm, analogGroup, alarmGroup}
-use Rattle.record.specs.Infos.{makerInfo, emptyInfo}
+use Rattle.record.specs.Infos.{parametersInfo, makerInfo, emptyInfo}
 use Rattle.table.proofs.rule.Rules.{is-true}
 use Rattle.table.proofs.rule.Fine.{keeps-parts}
 use Rattle.table.specs.declared.Table.{Table}
 use Rattle.table.specs.Table.{members, countOn}
 use Rattle.table.specs.Rule.{rule, keeps}
-use Rattle.table.specs.Changes.{dealt, withAnalog, withAlarm, withLimits, withSerial, withVersion}
+use Rattle.table.specs.Changes.{dealt, withAnalog, withAlarm, withLimits, withSerial, withVersion, withParameters}
 use Rattle.command.specs.declared.Kind.{Kind}
-use Rattle.command.specs.declared.Kind.the-variants.{Analog, AnalogGroup, Alarm, AlarmGroup, Protocol, Maker, Limits, Serial, TurnOff, Version, Unserved}
+use Rattle.command.specs.declared.Kind.the-variants.{Analog, AnalogGroup, Alarm, AlarmGroup, Parameters, Protocol, Maker, Limits, Serial, TurnOff, Version, Unserved}
 use Rattle.command.specs.Command.{formOf}
 use Rattle.command.specs.Heard.{words}
 use Rattle.reply.specs.declared.gate.Question.{Question}
@@ -37,7 +38,7 @@ use Rattle.reply.specs.declared.Reading.{Reading}
 use Rattle.reply.specs.Gate.{gate}
 use Rattle.reply.specs.Read.{Data, Left, took, forAll, given, byCode, readReply, Reads}
 use Rattle.reply.proofs.Ways.{by-gate}
-use Rattle.meet.proofs.Kept.{Oks, replaced-rule, dealt-rule, analog-safe, alarm-safe, limits-safe, serial-safe, version-safe}
+use Rattle.meet.proofs.Kept.{Oks, replaced-rule, dealt-rule, analog-safe, alarm-safe, limits-safe, serial-safe, version-safe, parameters-safe}
 
 -- the records that a reading would leave keep the rule
 abbrev Kept : Told Data → Type 0
@@ -74,7 +75,7 @@ module _ {A : Type 0} (w : Whole ((ℕ × ℕ) × List A)) (info : List ℕ) (by
 
 module _ (ms : List Module) (e : rule ms ≡ true) (adr : ℕ) (info : List ℕ) (bytes : Bytes info) where
   took-rule : (k : Kind) → Kept (took k ms adr info)
-  unfolding took analogInfo alarmInfo limitsInfo serialInfo versionInfo analogGroup alarmGroup
+  unfolding took analogInfo alarmInfo limitsInfo serialInfo versionInfo analogGroup alarmGroup parametersInfo
   took-rule Analog =
       one (analogInfo adr) info bytes _
       (λ x t. replaced-rule (withAnalog (x .1)) (analog-safe (x .1) (is-true _ (and-yes ((byte then command adr) .ok (x .0)) (analog .ok (x .1)) t .1))) adr ms e)
@@ -87,6 +88,9 @@ module _ (ms : List Module) (e : rule ms ≡ true) (adr : ℕ) (info : List ℕ)
   took-rule AlarmGroup =
       all alarmGroup info bytes withAlarm ms e
       (λ x t. dealt-rule alarm withAlarm alarm-safe ms (x .1) (many-oks alarm some-alarm 12 (x .1) (and-yes ((byte then command 0xFF) .ok (x .0)) (many-ok alarm some-alarm 12 (x .1)) t .1)) e)
+  took-rule Parameters =
+      one parametersInfo info bytes _
+      (λ x t. replaced-rule (withParameters (x .1)) (parameters-safe (x .1) (is-true _ (and-yes (byte .ok (x .0)) (parameters .ok (x .1)) t .1))) adr ms e)
   took-rule Protocol = one emptyInfo info bytes _ (λ x t. e)
   took-rule Maker = one makerInfo info bytes _ (λ x t. e)
   took-rule Limits =

@@ -26,7 +26,7 @@ use Rattle.record.specs.Analog.{analog}
 use Rattle.record.specs.Alarm.{alarm}
 use Rattle.record.specs.Limits.{limits as limitsRecord}
 use Rattle.record.specs.Texts.{serial, version, maker}
-use Rattle.record.specs.Infos.{Front, command, analogInfo, alarmInfo, limitsInfo, serialInfo, versionInfo, some-analog, some-alarm, analogGroup, alarmGroup, makerInfo}
+use Rattle.record.specs.Infos.{Front, command, parametersInfo, analogInfo, alarmInfo, limitsInfo, serialInfo, versionInfo, some-analog, some-alarm, analogGroup, alarmGroup, makerInfo}
 use Rattle.record.specs.Nothing.{noMaker}
 use Rattle.parts.specs.declared.front.Taken.{Taken}
 use Rattle.parts.specs.Took.{paper, taken, bare}
@@ -44,7 +44,7 @@ use Rattle.command.specs.declared.Kind.the-variants.{Maker}
 use Rattle.standin.specs.Answer.{infoBy}
 use Rattle.reply.proofs.Taking.{take-pad, analogs-few, alarms-few}
 use Rattle.meet.specs.Copied.{OfBytes}
-use Rattle.meet.specs.Records.{RoundTrip, withFlag, withoutFlag, ofGroup, analogs, alarms, limits, serials, versions, analogGroups, alarmGroups}
+use Rattle.meet.specs.Records.{RoundTrip, withFlag, withFlagAlone, withoutFlag, ofGroup, analogs, alarms, parameters, limits, serials, versions, analogGroups, alarmGroups}
 use Rattle.meet.proofs.Data.{yes, group-ok, maker-read}
 
 -- ---- any format
@@ -111,6 +111,17 @@ module _ {A : Type 0} (info : ℕ → Whole (Front × A)) (none : A) (part : Mod
         (yes-and (isAddress (m .adr)) (info (m .adr) .ok ((flag, m .adr), part m)) (yes fit));
   }
 
+module _ {A : Type 0} (info : Whole (ℕ × A)) (none : A) (part : Module → A) where
+  alone-trip : RoundTrip (withFlagAlone info none part)
+  alone-trip = record {
+    written-is-taken = λ flag m out out′ n small p t a r.
+        written-taken info none _ 33 _ (flag, part m) (λ f. and-yes (isAddress (m .adr)) (info .ok (flag, part m)) f .1) out out′ n p t a r;
+    taken-is-written = λ chars flag m p fit.
+        taken-written info none _ 33 _ (flag, part m) chars flag (part m) p
+        (λ y e ok f v i. (f i, v i))
+        (yes-and (isAddress (m .adr)) (info .ok (flag, part m)) (yes fit));
+  }
+
 module _ {A : Type 0} (info : ℕ → Whole (ℕ × A)) (none : A) (part : Module → A)
     (command-is : (adr : ℕ) (x : ℕ × A) → T (info adr .ok x) → x .0 ≡ adr) where
   bare-trip : RoundTrip (withoutFlag info none part)
@@ -143,7 +154,7 @@ module _ {A : Type 0} (info : Whole (Front × List A)) (none : A) (part : Module
         (λ ok. yes fit);
   }
 
--- ---- the seven kinds
+-- ---- the eight kinds
 
 pub analog-trip : RoundTrip analogs
 unfolding analogInfo
@@ -152,6 +163,9 @@ analog-trip = flag-trip analogInfo _ (λ m. m .analog) (λ adr. after-flag adr (
 pub alarm-trip : RoundTrip alarms
 unfolding alarmInfo
 alarm-trip = flag-trip alarmInfo _ (λ m. m .alarm) (λ adr. after-flag adr (ended alarm))
+
+pub parameters-trip : RoundTrip parameters
+parameters-trip = alone-trip parametersInfo _ (λ m. m .parameters)
 
 pub limits-trip : RoundTrip limits
 unfolding limitsInfo

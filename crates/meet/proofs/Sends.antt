@@ -17,6 +17,7 @@ use Rattle.record.specs.Analog.{analog, measured}
 use Rattle.record.specs.Alarm.{alarm, codes, singles, isAlarmCode}
 use Rattle.record.specs.Capacities.{capacities}
 use Rattle.record.specs.Limits.{limits}
+use Rattle.record.specs.Parameters.{parameters}
 use Rattle.record.specs.Texts.{serial, version}
 use Rattle.table.specs.declared.Station.{Station}
 use Rattle.table.specs.declared.Table.{Table}
@@ -66,14 +67,14 @@ abbrev one : Module → Table
 one m = record { count = 1; modules = m ∷ replicate 11 blank }
 
 abbrev faulty : Module
-faulty = record { adr = 2; on = 1; «link_fault» = 1; analog = master .analog; alarm = master .alarm; limits = master .limits; serial = master .serial; version = master .version }
+faulty = record { adr = 2; on = 1; «link_fault» = 1; analog = master .analog; alarm = master .alarm; limits = master .limits; serial = master .serial; version = master .version; parameters = master .parameters }
 
 sound-keeps : keeps (one master) ≡ true
-unfolding keeps members rule rising fine encodable isAddress analog measured capacities alarm codes singles isAlarmCode limits serial version
+unfolding keeps members rule rising fine encodable isAddress analog measured capacities alarm codes singles isAlarmCode limits serial version parameters
 sound-keeps = refl
 
 faulty-keeps : keeps (one faulty) ≡ true
-unfolding keeps members rule rising fine encodable isAddress analog measured capacities alarm codes singles isAlarmCode limits serial version
+unfolding keeps members rule rising fine encodable isAddress analog measured capacities alarm codes singles isAlarmCode limits serial version parameters
 faulty-keeps = refl
 
 -- ---- the stretches
@@ -96,8 +97,8 @@ all-said :
     -- a character of CHKSUM, then LCHKSUM, is another
     × answers-with master 0x02 (set well-asked 17 0x33)
     × answers-with master 0x03 (set well-asked 8 0x30)
-    -- 47H
-    × answers-with master 0x04 (to-master 0x21 0x47 2)
+    -- 94H
+    × answers-with master 0x04 (to-master 0x21 0x94 2)
     -- a 42H without Command
     × answers-with master 0x05 (chars (record { ver = 0x21; adr = 2; cid1 = 0x46; cid2 = 0x42 }) [])
     -- FFH with 92H, and Command 03
@@ -106,6 +107,14 @@ all-said :
     × answers-with faulty 0x91 well-asked
 unfolding decide members words judge need header lenid allHex isHex digitOf byteOf byteAt wordAt lchksum sum chksum numberOf memberAt placeOf kindOf termsOf isMaster anyFault asking chars seal packed hexes lengthOf charOf
 all-said = (refl, refl, refl, refl, refl, refl, refl, refl, refl)
+
+-- 47H, which has no Command: a link fault does not hinder it, another VER is 01H, and a Command in its INFO 05H
+pub parameters-said :
+    answers-with faulty 0x00 (to-master 0x21 0x47 0)
+    × answers-with master 0x01 (to-master 0x20 0x47 0)
+    × answers-with master 0x05 (chars (record { ver = 0x21; adr = 2; cid1 = 0x46; cid2 = 0x47 }) (2 ∷ []))
+unfolding decide members words judge need header lenid allHex isHex digitOf byteOf byteAt wordAt lchksum sum chksum numberOf memberAt placeOf kindOf termsOf isMaster anyFault asking chars seal packed hexes lengthOf charOf
+parameters-said = (refl, refl, refl)
 
 -- ---- each code
 

@@ -15,6 +15,7 @@ use Rattle.record.specs.Analog.{analog, measured}
 use Rattle.record.specs.Alarm.{alarm, codes, singles, isAlarmCode}
 use Rattle.record.specs.Capacities.{capacities}
 use Rattle.record.specs.Limits.{limits}
+use Rattle.record.specs.Parameters.{parameters}
 use Rattle.record.specs.Texts.{serial, version}
 use Rattle.table.specs.declared.Station.{Station}
 use Rattle.table.specs.Table.{placeOf, hasMember, memberAt, isMaster, anyFault}
@@ -57,6 +58,20 @@ master = record {
   limits = record { «charge_voltage» = 53250; «discharge_voltage» = 47000; «charge_current» = pos 250; «discharge_current» = pos 250; status = 0xC0 };
   serial = replicate 16 0x41;
   version = replicate 5 1;
+  parameters = record {
+    «cell_high_voltage» = pos 3700;
+    «cell_low_voltage» = pos 3050;
+    «cell_under_voltage» = pos 2900;
+    «charge_high_temperature» = pos 3231;
+    «charge_low_temperature» = pos 2731;
+    «charge_current» = pos 250;
+    «module_high_voltage» = 53250;
+    «module_low_voltage» = 47000;
+    «module_under_voltage» = 44500;
+    «discharge_high_temperature» = pos 3331;
+    «discharge_low_temperature» = pos 2631;
+    «discharge_current» = negsuc 249;
+  };
 }
 
 abbrev pub station : Station
@@ -67,7 +82,7 @@ abbrev pub question : List ℕ
 question = 50 ∷ 48 ∷ 48 ∷ 50 ∷ 52 ∷ 54 ∷ 52 ∷ 70 ∷ 48 ∷ 48 ∷ 48 ∷ 48 ∷ 70 ∷ 68 ∷ 57 ∷ 56 ∷ []
 
 pub keeps-rule : rule (master ∷ []) ≡ true
-unfolding rule rising fine encodable isAddress analog measured capacities alarm codes singles isAlarmCode limits serial version
+unfolding rule rising fine encodable isAddress analog measured capacities alarm codes singles isAlarmCode limits serial version parameters
 keeps-rule = refl
 
 bytes-all : (n b : ℕ) → b < 256 → Bytes (replicate n b)

@@ -10,10 +10,10 @@ use Rattle.record.specs.declared.Module.{Module}
 use Rattle.record.specs.Nothing.{noMaker}
 use Rattle.table.specs.declared.Station.{Station}
 use Rattle.table.specs.Table.{memberAt, countOn}
-use Rattle.table.specs.Changes.{replaced, dealt, withAnalog, withAlarm, withLimits, withSerial, withVersion}
+use Rattle.table.specs.Changes.{replaced, dealt, withAnalog, withAlarm, withLimits, withSerial, withVersion, withParameters}
 use Rattle.groups.specs.Groups.{analogsOn, alarmsOn}
 use Rattle.command.specs.declared.Kind.{Kind}
-use Rattle.command.specs.declared.Kind.the-variants.{Analog, AnalogGroup, Alarm, AlarmGroup, Protocol, Maker, Limits, Serial, TurnOff, Version, Unserved}
+use Rattle.command.specs.declared.Kind.the-variants.{Analog, AnalogGroup, Alarm, AlarmGroup, Parameters, Protocol, Maker, Limits, Serial, TurnOff, Version, Unserved}
 use Rattle.command.specs.Command.{paper}
 
 -- VER and the 32 bytes of 51H are bytes
@@ -28,6 +28,7 @@ copied Analog adr ms ms′ = replaced adr (withAnalog (memberAt adr ms .analog))
 copied AnalogGroup adr ms ms′ = dealt withAnalog ms′ (analogsOn ms)
 copied Alarm adr ms ms′ = replaced adr (withAlarm (memberAt adr ms .alarm)) ms′
 copied AlarmGroup adr ms ms′ = dealt withAlarm ms′ (alarmsOn ms)
+copied Parameters adr ms ms′ = replaced adr (withParameters (memberAt adr ms .parameters)) ms′
 copied Protocol adr ms ms′ = ms′
 copied Maker adr ms ms′ = ms′
 copied Limits adr ms ms′ = replaced adr (withLimits (memberAt adr ms .limits)) ms′

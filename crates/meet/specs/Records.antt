@@ -13,12 +13,13 @@ use Rattle.record.specs.declared.Module.{Module}
 use Rattle.record.specs.declared.Analog.{Analog}
 use Rattle.record.specs.declared.Alarm.{Alarm}
 use Rattle.record.specs.declared.Limits.{Limits}
+use Rattle.record.specs.declared.Parameters.{Parameters}
 use Rattle.record.specs.Address.{isAddress}
-use Rattle.record.specs.Infos.{Front, analogInfo, alarmInfo, limitsInfo, serialInfo, versionInfo, analogGroup, alarmGroup}
-use Rattle.record.specs.Nothing.{noAnalog, noAlarm, noLimits, noSerial, noVersion}
+use Rattle.record.specs.Infos.{Front, analogInfo, alarmInfo, limitsInfo, serialInfo, versionInfo, analogGroup, alarmGroup, parametersInfo}
+use Rattle.record.specs.Nothing.{noAnalog, noAlarm, noLimits, noSerial, noVersion, noParameters}
 use Rattle.parts.specs.Records.{recordWriting}
 use Rattle.parts.specs.declared.front.Taken.{Taken}
-use Rattle.parts.specs.Took.{Took, paper, taken, flagged, unflagged}
+use Rattle.parts.specs.Took.{Took, paper, taken, flagged, flagAlone, unflagged}
 use Rattle.parts.specs.Groups.{places, noPlaces, grouped}
 use Rattle.table.specs.declared.Table.{Table}
 use Rattle.table.specs.Table.{members}
@@ -44,12 +45,21 @@ pub record RoundTrip {S A : Type 0} (k : Contracts S A) : Type 0 where
       → (out out′ : List ℕ) (r : Written) → length (unhexes info) ≤ length out → Writes (k .writes flag s out) r out′
       → (r ≡ Wrote (length (unhexes info))) × (out′ ≡ unhexes info ++ drop (length (unhexes info)) out)
 
--- ---- one module's record: with a flag (42H and 44H), and without
+-- ---- one module's record: with a flag (42H and 44H), with a flag and no Command (47H), and without a flag
 
 abbrev pub withFlag : {A : Type 0} → (ℕ → Whole (Front × A)) → A → (Module → A) → Contracts Module A
 withFlag info none part = record {
   writes = λ flag m out. recordWriting (m .adr) (info (m .adr)) ((flag, m .adr), part m) out;
   takes = λ m chars. taken none flagged (info (m .adr) .get (unhexes chars));
+  part = part;
+  flag = λ f. f;
+  fit = λ m. isAddress (m .adr);
+}
+
+abbrev pub withFlagAlone : {A : Type 0} → Whole (ℕ × A) → A → (Module → A) → Contracts Module A
+withFlagAlone info none part = record {
+  writes = λ flag m out. recordWriting (m .adr) info (flag, part m) out;
+  takes = λ m chars. taken none flagAlone (info .get (unhexes chars));
   part = part;
   flag = λ f. f;
   fit = λ m. isAddress (m .adr);
@@ -75,13 +85,16 @@ ofGroup info none part = record {
   fit = keeps;
 }
 
--- ---- the seven kinds: `write_..` and `take_..` of each
+-- ---- the eight kinds: `write_..` and `take_..` of each
 
 abbrev pub analogs : Contracts Module Analog
 analogs = withFlag analogInfo noAnalog (λ m. m .analog)
 
 abbrev pub alarms : Contracts Module Alarm
 alarms = withFlag alarmInfo noAlarm (λ m. m .alarm)
+
+abbrev pub parameters : Contracts Module Parameters
+parameters = withFlagAlone parametersInfo noParameters (λ m. m .parameters)
 
 abbrev pub limits : Contracts Module Limits
 limits = withoutFlag limitsInfo noLimits (λ m. m .limits)

@@ -18,9 +18,12 @@ abbrev pub taken : {A X : Type 0} → A → (X → ℕ × A) → Told X → Took
 taken none how (told x) = took (how x .0) (how x .1)
 taken none how (refuse k) = refused k none
 
--- after flag and Command; after Command alone; with neither: where there is no flag it is 0
+-- after flag and Command; after the flag alone; after Command alone; with neither: where there is no flag it is 0
 abbrev pub flagged : {A : Type 0} → Front × A → ℕ × A
 flagged x = (x .0 .0, x .1)
+
+abbrev pub flagAlone : {A : Type 0} → ℕ × A → ℕ × A
+flagAlone x = x
 
 abbrev pub unflagged : {A : Type 0} → ℕ × A → ℕ × A
 unflagged x = (0, x .1)

@@ -4,8 +4,9 @@ use Rattle.codec.proofs.Inverse.{Inverse, inverse, WholeInverse, whole-inverse}
 use Rattle.record.specs.Analog.{analog}
 use Rattle.record.specs.Alarm.{alarm}
 use Rattle.record.specs.Limits.{limits}
+use Rattle.record.specs.Parameters.{parameters}
 use Rattle.record.specs.Texts.{serial, version, maker}
-use Rattle.record.specs.Infos.{analogInfo, alarmInfo, limitsInfo, serialInfo, versionInfo, analogGroup, alarmGroup, makerInfo, emptyInfo}
+use Rattle.record.specs.Infos.{analogInfo, alarmInfo, limitsInfo, serialInfo, versionInfo, analogGroup, alarmGroup, parametersInfo, makerInfo, emptyInfo}
 
 -- ---- records
 
@@ -17,6 +18,9 @@ alarm-inverse = inverse alarm
 
 pub limits-inverse : Inverse limits
 limits-inverse = inverse limits
+
+pub parameters-inverse : Inverse parameters
+parameters-inverse = inverse parameters
 
 pub serial-inverse : Inverse serial
 serial-inverse = inverse serial
@@ -49,6 +53,9 @@ analog-group-inverse = whole-inverse analogGroup
 
 pub alarm-group-inverse : WholeInverse alarmGroup
 alarm-group-inverse = whole-inverse alarmGroup
+
+pub parameters-info-inverse : WholeInverse parametersInfo
+parameters-info-inverse = whole-inverse parametersInfo
 
 pub maker-info-inverse : WholeInverse makerInfo
 maker-info-inverse = whole-inverse makerInfo

@@ -1,15 +1,18 @@
--- The paper's lines on records, computed: the ends of the currents, the two sides of 65 Ah, and 92H.
+-- The paper's lines on records, computed: the ends of the currents, the two sides of 65 Ah, 92H and 47H.
 use mathlib.Core.Path.{_≡_, refl}
 use mathlib.Core.List.{[], _∷_}
+use lib.ListN.{replicate}
 use lib.IntN.{pos, negsuc}
 use mir.Syntax.{w16}
 use mir.Val.{toZ}
 use Rattle.codec.specs.Codec.{no}
 use Rattle.codec.specs.Whole.{told}
-use Rattle.record.specs.Meanings.{milliampsOf}
+use Rattle.record.specs.Meanings.{milliampsOf, tenthsCelsiusOf}
 use Rattle.record.specs.Capacities.{capacities}
 use Rattle.record.specs.Limits.{limits}
-use Rattle.record.specs.Infos.{limitsInfo}
+use Rattle.record.specs.Parameters.{parameters}
+use Rattle.record.specs.Infos.{limitsInfo, parametersInfo}
+use Rattle.record.specs.Nothing.{noParameters}
 
 -- current 8000: -3,276,800 mA
 pub current-8000 : milliampsOf (toZ w16 0x8000) ≡ negsuc 3276799
@@ -57,3 +60,59 @@ limits-line = refl
 
 pub limits-amps : milliampsOf (pos 250) ≡ pos 25000
 limits-amps = refl
+
+-- 47H INFO 000E740BEA0B540C9F0AAB00FAD002B798ADD40D030A47FF06: flag 00H; a cell 3,700, 3,050 and 2,900 mV; charge 50.0 C, 0.0 C and 25.0 A;
+-- the module 53,250, 47,000 and 44,500 mV; discharge 60.0 C, -10.0 C and -25.0 A
+pub parameters-line : parametersInfo .get (0x00 ∷ 0x0E ∷ 0x74 ∷ 0x0B ∷ 0xEA ∷ 0x0B ∷ 0x54 ∷ 0x0C ∷ 0x9F ∷ 0x0A ∷ 0xAB ∷ 0x00 ∷ 0xFA ∷ 0xD0 ∷ 0x02 ∷ 0xB7 ∷ 0x98 ∷ 0xAD ∷ 0xD4 ∷ 0x0D ∷ 0x03 ∷ 0x0A ∷ 0x47 ∷ 0xFF ∷ 0x06 ∷ [])
+    ≡ told (
+      0x00,
+      record {
+        «cell_high_voltage» = pos 3700;
+        «cell_low_voltage» = pos 3050;
+        «cell_under_voltage» = pos 2900;
+        «charge_high_temperature» = pos 3231;
+        «charge_low_temperature» = pos 2731;
+        «charge_current» = pos 250;
+        «module_high_voltage» = 53250;
+        «module_low_voltage» = 47000;
+        «module_under_voltage» = 44500;
+        «discharge_high_temperature» = pos 3331;
+        «discharge_low_temperature» = pos 2631;
+        «discharge_current» = negsuc 249;
+      },
+    )
+unfolding parametersInfo parameters
+parameters-line = refl
+
+pub parameters-celsius : (tenthsCelsiusOf (pos 3231) ≡ pos 500) × (tenthsCelsiusOf (pos 2731) ≡ pos 0) × (tenthsCelsiusOf (pos 3331) ≡ pos 600) × (tenthsCelsiusOf (pos 2631) ≡ negsuc 99)
+parameters-celsius = (refl, refl, refl, refl)
+
+pub parameters-amps : milliampsOf (negsuc 249) ≡ negsuc 24999
+parameters-amps = refl
+
+-- every word FFFFH: nine signed, the module's three unsigned
+pub parameters-signs : parametersInfo .get (replicate 25 0xFF)
+    ≡ told (
+      0xFF,
+      record {
+        «cell_high_voltage» = negsuc 0;
+        «cell_low_voltage» = negsuc 0;
+        «cell_under_voltage» = negsuc 0;
+        «charge_high_temperature» = negsuc 0;
+        «charge_low_temperature» = negsuc 0;
+        «charge_current» = negsuc 0;
+        «module_high_voltage» = 65535;
+        «module_low_voltage» = 65535;
+        «module_under_voltage» = 65535;
+        «discharge_high_temperature» = negsuc 0;
+        «discharge_low_temperature» = negsuc 0;
+        «discharge_current» = negsuc 0;
+      },
+    )
+unfolding parametersInfo parameters
+parameters-signs = refl
+
+-- where nothing was read there are zeros
+pub no-parameters-zeros : parametersInfo .put (0, noParameters) ≡ replicate 25 0
+unfolding parametersInfo parameters
+no-parameters-zeros = refl

@@ -26,9 +26,11 @@ use Rattle.codec.specs.Counted.{every}
 use Rattle.record.specs.declared.Analog.{Analog}
 use Rattle.record.specs.declared.Alarm.{Alarm}
 use Rattle.record.specs.declared.Limits.{Limits}
+use Rattle.record.specs.declared.Parameters.{Parameters}
 use Rattle.record.specs.declared.Module.{Module}
 use Rattle.record.specs.Alarm.{isAlarmCode, code}
 use Rattle.record.specs.Limits.{limits}
+use Rattle.record.specs.Parameters.{parameters}
 use Rattle.record.specs.Texts.{serial, version}
 use Rattle.record.proofs.Analog as A
 use Rattle.record.proofs.Analog.Laws as A′
@@ -36,6 +38,8 @@ use Rattle.record.proofs.Alarm as R
 use Rattle.record.proofs.Alarm.Laws as R′
 use Rattle.record.proofs.Limits as L
 use Rattle.record.proofs.Limits.Laws as L′
+use Rattle.record.proofs.Parameters as P
+use Rattle.record.proofs.Parameters.Laws as P′
 use Rattle.record.proofs.Module as M
 use Rattle.record.proofs.Module.Laws as M′
 
@@ -49,6 +53,25 @@ limits-ok l vs g =
       lt-ltb (mag (l .«charge_current»)) 32768 (f .1 .1 .0 .1),
       lt-ltb (mag (l .«discharge_current»)) 32768 (f .1 .1 .1 .0 .1),
       lt-ltb (l .status) 256 (f .1 .1 .1 .1 .0 .1),
+    ) tt
+
+pub parameters-ok : (p : Parameters) (vs : List Val) → Is P.the-row p vs → T (parameters .ok p)
+unfolding parameters
+parameters-ok p vs g =
+    let f = LL.owed P.the-type P′.the-laws p vs g in
+    simp (
+      lt-ltb (mag (p .«cell_high_voltage»)) 32768 (f .0 .1),
+      lt-ltb (mag (p .«cell_low_voltage»)) 32768 (f .1 .0 .1),
+      lt-ltb (mag (p .«cell_under_voltage»)) 32768 (f .1 .1 .0 .1),
+      lt-ltb (mag (p .«charge_high_temperature»)) 32768 (f .1 .1 .1 .0 .1),
+      lt-ltb (mag (p .«charge_low_temperature»)) 32768 (f .1 .1 .1 .1 .0 .1),
+      lt-ltb (mag (p .«charge_current»)) 32768 (f .1 .1 .1 .1 .1 .0 .1),
+      lt-ltb (p .«module_high_voltage») 65536 (f .1 .1 .1 .1 .1 .1 .0 .1),
+      lt-ltb (p .«module_low_voltage») 65536 (f .1 .1 .1 .1 .1 .1 .1 .0 .1),
+      lt-ltb (p .«module_under_voltage») 65536 (f .1 .1 .1 .1 .1 .1 .1 .1 .0 .1),
+      lt-ltb (mag (p .«discharge_high_temperature»)) 32768 (f .1 .1 .1 .1 .1 .1 .1 .1 .1 .0 .1),
+      lt-ltb (mag (p .«discharge_low_temperature»)) 32768 (f .1 .1 .1 .1 .1 .1 .1 .1 .1 .1 .0 .1),
+      lt-ltb (mag (p .«discharge_current»)) 32768 (f .1 .1 .1 .1 .1 .1 .1 .1 .1 .1 .1 .0 .1),
     ) tt
 
 -- an array of bytes that a struct holds
@@ -72,6 +95,9 @@ version-ok m vs g = bytes-ok 5 (m .version) _ (LL.owed M.the-type M′.the-laws 
 
 pub module-limits-ok : (m : Module) (vs : List Val) → Is M.the-row m vs → T (limits .ok (m .limits))
 module-limits-ok m vs g = limits-ok (m .limits) _ (LL.owed M.the-type M′.the-laws m vs g .1 .1 .1 .1 .1 .0)
+
+pub module-parameters-ok : (m : Module) (vs : List Val) → Is M.the-row m vs → T (parameters .ok (m .parameters))
+module-parameters-ok m vs g = parameters-ok (m .parameters) _ (LL.owed M.the-type M′.the-laws m vs g .1 .1 .1 .1 .1 .1 .1 .1 .0)
 
 -- ---- lists of 42H and 44H
 

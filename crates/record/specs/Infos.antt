@@ -14,9 +14,11 @@ use Rattle.codec.specs.Many.{many}
 use Rattle.record.specs.declared.Analog.{Analog}
 use Rattle.record.specs.declared.Alarm.{Alarm}
 use Rattle.record.specs.declared.Limits.{Limits}
+use Rattle.record.specs.declared.Parameters.{Parameters}
 use Rattle.record.specs.Analog.{analog, measured}
 use Rattle.record.specs.Alarm.{alarm, codes}
 use Rattle.record.specs.Limits.{limits}
+use Rattle.record.specs.Parameters.{parameters}
 use Rattle.record.specs.Texts.{serial, version, maker}
 
 abbrev pub command : ℕ → Codec ℕ
@@ -26,7 +28,7 @@ command asked = tested (λ c. eqb c asked) 21 byte
 abbrev pub Front : Type 0
 Front = ℕ × ℕ
 
--- ---- one module: flag (42H and 44H only), Command, then its record
+-- ---- one module: flag (42H and 44H), Command, then its record
 
 unfoldable pub analogInfo : ℕ → Whole (Front × Analog)
 analogInfo adr = lead (byte then command adr) (λ x. ended analog)
@@ -58,6 +60,11 @@ analogGroup = lead (byte then command 0xFF) (λ x. many analog some-analog 12)
 
 unfoldable pub alarmGroup : Whole (Front × List Alarm)
 alarmGroup = lead (byte then command 0xFF) (λ x. many alarm some-alarm 12)
+
+-- ---- 47H: flag, then the record
+
+unfoldable pub parametersInfo : Whole (ℕ × Parameters)
+parametersInfo = lead byte (λ flag. ended parameters)
 
 -- ---- 51H: its 32 bytes
 

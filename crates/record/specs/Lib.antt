@@ -5,6 +5,7 @@ pub mod Capacities
 pub mod Analog
 pub mod Alarm
 pub mod Limits
+pub mod Parameters
 pub mod Texts
 pub mod Infos
 pub mod Nothing

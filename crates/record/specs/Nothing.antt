@@ -6,10 +6,12 @@ use lib.IntN.{ℤ, pos}
 use Rattle.record.specs.declared.Analog.{Analog}
 use Rattle.record.specs.declared.Alarm.{Alarm}
 use Rattle.record.specs.declared.Limits.{Limits}
+use Rattle.record.specs.declared.Parameters.{Parameters}
 use Rattle.record.specs.Capacities.{Capacities}
 use Rattle.record.specs.Analog.{toAnalog}
 use Rattle.record.specs.Alarm.{toAlarm}
 use Rattle.record.specs.Limits.{toLimits}
+use Rattle.record.specs.Parameters.{toParameters}
 
 -- ---- 42H
 
@@ -35,6 +37,11 @@ noStatus = replicate 5 0
 
 abbrev pub noAlarm : Alarm
 noAlarm = toAlarm ((0, noCodes 16), ((0, noCodes 8), (noSingles, noStatus)))
+
+-- ---- 47H
+
+abbrev pub noParameters : Parameters
+noParameters = toParameters ((pos 0, (pos 0, pos 0)), ((pos 0, (pos 0, pos 0)), ((0, (0, 0)), (pos 0, (pos 0, pos 0)))))
 
 -- ---- 92H, 93H, 96H and 51H
 

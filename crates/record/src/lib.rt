@@ -1,4 +1,4 @@
-// The module record, as 42H, 44H, 92H, 93H and 96H carry it, and what its numbers mean. Places of a list beyond its count are 0.
+// The module record, as 42H, 44H, 47H, 92H, 93H and 96H carry it, and what its numbers mean. Places of a list beyond its count are 0.
 
 ghost use mathlib.Core.Path.{_≡_};
 ghost use mir.Syntax.{w16};
@@ -6,7 +6,7 @@ ghost use mir.Val.{toZ, ofZ};
 ghost use Rattle.record.specs.Meanings.{milliampsOf, tenthsCelsiusOf};
 ghost use Rattle.record.specs.Address.{isAddress};
 ghost use Rattle.record.specs.Alarm.{isAlarmCode};
-ghost use Rattle.record.specs.Nothing.{noAnalog, noAlarm, noLimits};
+ghost use Rattle.record.specs.Nothing.{noAnalog, noAlarm, noLimits, noParameters};
 
 // 42H: cells in mV, temperatures as raw words, current in 100 mA (charge positive), module voltage in mV, remaining and total in mAh.
 #[repr(C)]
@@ -45,6 +45,24 @@ pub struct Limits {
     pub status: u8,
 }
 
+// 47H: the limits that a module holds itself to, of a cell, of charge, of the module and of discharge: voltages in mV (low: alarm, under:
+// protection), temperatures as raw words, currents in 100 mA.
+#[repr(C)]
+pub struct Parameters {
+    pub cell_high_voltage: i16,
+    pub cell_low_voltage: i16,
+    pub cell_under_voltage: i16,
+    pub charge_high_temperature: i16,
+    pub charge_low_temperature: i16,
+    pub charge_current: i16,
+    pub module_high_voltage: u16,
+    pub module_low_voltage: u16,
+    pub module_under_voltage: u16,
+    pub discharge_high_temperature: i16,
+    pub discharge_low_temperature: i16,
+    pub discharge_current: i16,
+}
+
 // One module: `on` and `link_fault` are 0 or 1.
 #[repr(C)]
 pub struct Module {
@@ -56,6 +74,7 @@ pub struct Module {
     pub limits: Limits,
     pub serial: [u8; 16],
     pub version: [u8; 5],
+    pub parameters: Parameters,
 }
 
 // ---- records of zeros
@@ -105,6 +124,25 @@ pub fn zero_limits() -> Limits
         charge_current: 0,
         discharge_current: 0,
         status: 0,
+    }
+}
+
+pub fn zero_parameters() -> Parameters
+    ensures { λ r. ⌜ r ≡ noParameters ⌝ }
+{
+    Parameters {
+        cell_high_voltage: 0,
+        cell_low_voltage: 0,
+        cell_under_voltage: 0,
+        charge_high_temperature: 0,
+        charge_low_temperature: 0,
+        charge_current: 0,
+        module_high_voltage: 0,
+        module_low_voltage: 0,
+        module_under_voltage: 0,
+        discharge_high_temperature: 0,
+        discharge_low_temperature: 0,
+        discharge_current: 0,
     }
 }
 

@@ -11,13 +11,13 @@ use Rattle.frame.specs.Frame.{infoAt}
 use Rattle.codec.specs.Whole.{Told, told, refuse, mapped}
 use Rattle.record.specs.declared.Module.{Module}
 use Rattle.record.specs.Infos.{analogInfo, alarmInfo, limitsInfo, serialInfo, versionInfo, analogGroup, alarmGroup}
-use Rattle.record.specs.Infos.{makerInfo, emptyInfo}
+use Rattle.record.specs.Infos.{parametersInfo, makerInfo, emptyInfo}
 use Rattle.record.specs.Nothing.{noMaker}
 use Rattle.table.specs.declared.Table.{Table}
 use Rattle.table.specs.Table.{members, countOn}
-use Rattle.table.specs.Changes.{Kept, replaced, dealt, withAnalog, withAlarm, withLimits, withSerial, withVersion}
+use Rattle.table.specs.Changes.{Kept, replaced, dealt, withAnalog, withAlarm, withLimits, withSerial, withVersion, withParameters}
 use Rattle.command.specs.declared.Kind.{Kind}
-use Rattle.command.specs.declared.Kind.the-variants.{Analog, AnalogGroup, Alarm, AlarmGroup, Protocol, Maker, Limits, Serial, TurnOff, Version, Unserved}
+use Rattle.command.specs.declared.Kind.the-variants.{Analog, AnalogGroup, Alarm, AlarmGroup, Parameters, Protocol, Maker, Limits, Serial, TurnOff, Version, Unserved}
 use Rattle.command.specs.Command.{formOf}
 use Rattle.command.specs.Heard.{Words, words}
 use Rattle.reply.specs.declared.gate.Question.{Question}
@@ -44,6 +44,7 @@ took Analog ms adr info = mapped (analogInfo adr .get info) (λ x. (x .0 .0, (no
 took AnalogGroup ms adr info = forAll withAnalog ms (analogGroup .get info)
 took Alarm ms adr info = mapped (alarmInfo adr .get info) (λ x. (x .0 .0, (noMaker, replaced adr (withAlarm (x .1)) ms)))
 took AlarmGroup ms adr info = forAll withAlarm ms (alarmGroup .get info)
+took Parameters ms adr info = mapped (parametersInfo .get info) (λ x. (x .0, (noMaker, replaced adr (withParameters (x .1)) ms)))
 took Protocol ms adr info = tookNothing ms info
 took Maker ms adr info = mapped (makerInfo .get info) (λ x. (0, (x, ms)))
 took Limits ms adr info = mapped (limitsInfo adr .get info) (λ x. (0, (noMaker, replaced adr (withLimits (x .1)) ms)))

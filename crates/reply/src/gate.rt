@@ -9,7 +9,7 @@ use frame::Judged;
 use refusal::Refusal;
 use table::Table;
 
-// What was asked; Command is ignored with 4FH and 51H.
+// What was asked; Command is ignored with 47H, 4FH and 51H.
 #[repr(C)]
 pub struct Question {
     pub adr: u8,

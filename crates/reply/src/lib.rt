@@ -141,6 +141,21 @@ fn read_version(table: Table, adr: u8, ver: u8, info: &[u8]) -> Reading
     }
 }
 
+fn read_parameters(table: Table, adr: u8, ver: u8, info: &[u8]) -> Reading
+    ensures { λ r. ⌜ Reads (given ver (members table) (took Kind.Parameters (members table) adr (unhexes (now (info .entry))))) table r ⌝ }
+{
+    let found = fixed::info::take_parameters(info);
+    let taken = found.taken;
+    match taken {
+        Taken::Refused(why) => not_read(table, why),
+        Taken::Taken(flag) => {
+            let parameters = found.parameters;
+            let next = table::changes::with_parameters(table, adr, parameters);
+            was_read(next, ver, 0, flag)
+        }
+    }
+}
+
 // Of each member that is on, all or none.
 fn read_analog_group(table: Table, adr: u8, ver: u8, info: &[u8]) -> Reading
     ensures { λ r. ⌜ Reads (given ver (members table) (took Kind.AnalogGroup (members table) adr (unhexes (now (info .entry))))) table r ⌝ }
@@ -217,6 +232,7 @@ fn read_data(table: Table, kind: Kind, adr: u8, ver: u8, info: &[u8]) -> Reading
         Kind::AnalogGroup => read_analog_group(table, adr, ver, info),
         Kind::Alarm => read_alarm(table, adr, ver, info),
         Kind::AlarmGroup => read_alarm_group(table, adr, ver, info),
+        Kind::Parameters => read_parameters(table, adr, ver, info),
         Kind::Protocol => read_nothing(table, ver, info),
         Kind::Maker => read_maker(table, adr, ver, info),
         Kind::Limits => read_limits(table, adr, ver, info),

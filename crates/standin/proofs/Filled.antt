@@ -15,11 +15,12 @@ use Rattle.record.specs.Address.{isAddress}
 use Rattle.record.specs.Analog.{analog}
 use Rattle.record.specs.Alarm.{alarm}
 use Rattle.record.specs.Limits.{limits}
+use Rattle.record.specs.Parameters.{parameters}
 use Rattle.record.specs.Texts.{serial, version}
-use Rattle.record.specs.Infos.{analogInfo, alarmInfo, limitsInfo, serialInfo, versionInfo, analogGroup, alarmGroup}
+use Rattle.record.specs.Infos.{analogInfo, alarmInfo, limitsInfo, serialInfo, versionInfo, analogGroup, alarmGroup, parametersInfo}
 use Rattle.parts.specs.Records.{recordWriting}
-use Rattle.parts.proofs.writing.Texts.{led, flag-led, row-length}
-use Rattle.fixed.proofs.writer.Texts.{limits-length, serial-text, version-text}
+use Rattle.parts.proofs.writing.Texts.{led, flag-led, alone-led, row-length}
+use Rattle.fixed.proofs.writer.Texts.{limits-length, parameters-length, serial-text, version-text}
 use Rattle.table.specs.declared.Station.{Station}
 use Rattle.table.specs.Table.{isOn, memberAt}
 use Rattle.table.specs.Rule.{rule}
@@ -28,7 +29,7 @@ use Rattle.groups.specs.Groups.{analogsOn, alarmsOn, analogGroupWriting, alarmG
 use Rattle.groups.specs.Texts.{analogText, alarmText}
 use Rattle.groups.proofs.Texts.{analog-group, alarm-group}
 use Rattle.command.specs.declared.Kind.{Kind}
-use Rattle.command.specs.declared.Kind.the-variants.{Analog, AnalogGroup, Alarm, AlarmGroup, Protocol, Maker, Limits, Serial, TurnOff, Version, Unserved}
+use Rattle.command.specs.declared.Kind.the-variants.{Analog, AnalogGroup, Alarm, AlarmGroup, Parameters, Protocol, Maker, Limits, Serial, TurnOff, Version, Unserved}
 use Rattle.standin.specs.Answer.{infoBy}
 use Rattle.standin.proofs.Members.{member-adr, member-fine, analog-short, alarm-short, group-short}
 
@@ -71,6 +72,10 @@ module _ (st : Station) (ms : List Module) (adr : ℕ) (keeps : rule ms ≡ true
   unfolding infoBy limitsInfo m
   limits-length-is = omega (arith, limits-length (m .limits))
 
+  pub parameters-length-is : length (infoBy Parameters st ms adr) ≤ 25
+  unfolding infoBy parametersInfo m
+  parameters-length-is = omega (arith, parameters-length (m .parameters))
+
   pub serial-length : length (infoBy Serial st ms adr) ≤ 17
   unfolding infoBy serialInfo m f serial
   serial-length = omega (arith, ap length (serial-text (m .serial)), row-length 16 (m .serial) (is-yes _ (f .serial-ok)))
@@ -93,6 +98,7 @@ module _ (st : Station) (ms : List Module) (adr : ℕ) (keeps : rule ms ≡ true
   info-length AnalogGroup e = omega (arith, analogs-length)
   info-length Alarm e = omega (arith, alarm-length)
   info-length AlarmGroup e = omega (arith, alarms-length)
+  info-length Parameters e = omega (arith, parameters-length-is)
   info-length Protocol e = omega arith
   info-length Maker e = omega arith
   info-length Limits e = omega (arith, limits-length-is)
@@ -118,6 +124,12 @@ module _ (st : Station) (ms : List Module) (adr : ℕ) (keeps : rule ms ≡ true
     alarm-filled p =
         single adr (alarmInfo adr) ((0, adr), m .alarm) out (flag-led adr alarm (m .alarm) address small 0 (omega arith) (f .alarm-ok)) (omega (arith, alarm-length)) r out′
         (subst (λ (a : ℕ). Writes (recordWriting a (alarmInfo a) ((0, a), m .alarm) out) r out′) own (subst (λ (x : Module). Writes (recordWriting (given .adr) (alarmInfo (given .adr)) ((0, given .adr), x .alarm) out) r out′) is p))
+
+    pub parameters-filled : Writes (recordWriting (given .adr) parametersInfo (0, given .parameters) out) r out′ → Writes (filled (infoBy Parameters st ms adr) out) r out′
+    unfolding infoBy parametersInfo m f own
+    parameters-filled p =
+        single adr parametersInfo (0, m .parameters) out (alone-led adr parameters (m .parameters) address 0 (omega arith) (is-yes _ (f .parameters-ok))) (omega (arith, parameters-length-is)) r out′
+        (subst (λ (a : ℕ). Writes (recordWriting a parametersInfo (0, m .parameters) out) r out′) own (subst (λ (x : Module). Writes (recordWriting (given .adr) parametersInfo (0, x .parameters) out) r out′) is p))
 
     pub limits-filled : Writes (recordWriting (given .adr) (limitsInfo (given .adr)) (given .adr, given .limits) out) r out′ → Writes (filled (infoBy Limits st ms adr) out) r out′
     unfolding infoBy limitsInfo m f own

@@ -9,11 +9,11 @@ use Rattle.refusal.specs.Number.{number}
 use Rattle.frame.specs.declared.Header.{Header}
 use Rattle.frame.specs.Frame.{encode}
 use Rattle.record.specs.declared.Module.{Module}
-use Rattle.record.specs.Infos.{analogInfo, alarmInfo, limitsInfo, serialInfo, versionInfo, analogGroup, alarmGroup}
+use Rattle.record.specs.Infos.{analogInfo, alarmInfo, limitsInfo, serialInfo, versionInfo, analogGroup, alarmGroup, parametersInfo}
 use Rattle.table.specs.declared.Station.{Station}
 use Rattle.table.specs.Table.{blank, placeOf, memberAt}
 use Rattle.command.specs.declared.Kind.{Kind}
-use Rattle.command.specs.declared.Kind.the-variants.{Analog, AnalogGroup, Alarm, AlarmGroup, Protocol, Maker, Limits, Serial, TurnOff, Version, Unserved}
+use Rattle.command.specs.declared.Kind.the-variants.{Analog, AnalogGroup, Alarm, AlarmGroup, Parameters, Protocol, Maker, Limits, Serial, TurnOff, Version, Unserved}
 use Rattle.command.specs.Command.{formOf}
 use Rattle.command.specs.Heard.{Words, words}
 use Rattle.table.specs.Changes.{switchedOff}
@@ -29,6 +29,7 @@ infoBy Analog st ms adr = analogInfo adr .put ((0, adr), memberAt adr ms .analog
 infoBy AnalogGroup st ms adr = analogGroup .put ((0, 0xFF), analogsOn ms)
 infoBy Alarm st ms adr = alarmInfo adr .put ((0, adr), memberAt adr ms .alarm)
 infoBy AlarmGroup st ms adr = alarmGroup .put ((0, 0xFF), alarmsOn ms)
+infoBy Parameters st ms adr = parametersInfo .put (0, memberAt adr ms .parameters)
 infoBy Protocol st ms adr = []
 infoBy Maker st ms adr = st .maker
 infoBy Limits st ms adr = limitsInfo adr .put (adr, memberAt adr ms .limits)

@@ -46,6 +46,7 @@ fn fill(info: &mut [u8], station: Station, table: Table, kind: Kind, adr: u8) ->
         Kind::AnalogGroup => groups::write_analog_group(info, 0, table),
         Kind::Alarm => alarm::writer::write_alarm(info, 0, member),
         Kind::AlarmGroup => groups::write_alarm_group(info, 0, table),
+        Kind::Parameters => fixed::writer::write_parameters(info, 0, member),
         Kind::Protocol => Written::Wrote(0),
         Kind::Maker => {
             let maker = station.maker;

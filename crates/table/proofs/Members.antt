@@ -11,6 +11,7 @@ use lib.Seq.{drop-cons, getD-take, length-take-le, take-all}
 use lib.IntN.{pos}
 use borrow.Author.Tests.{eq-eqb, ne-eqb}
 use Rattle.record.specs.declared.Module.{Module}
+use Rattle.record.specs.Nothing.{noParameters}
 use Rattle.table.specs.declared.Table.{Table}
 use Rattle.table.specs.Table.{members, isOn, hasFault, blank, placeOf, memberAt, anyFault, oneIf, countOn}
 
@@ -25,6 +26,7 @@ nil = record {
   limits = record { «charge_voltage» = 0; «discharge_voltage» = 0; «charge_current» = pos 0; «discharge_current» = pos 0; status = 0 };
   serial = [];
   version = [];
+  parameters = noParameters;
 }
 
 -- an element that is there does not go by the default

@@ -8,27 +8,31 @@ use Rattle.record.specs.declared.Module.{Module}
 use Rattle.record.specs.declared.Analog.{Analog}
 use Rattle.record.specs.declared.Alarm.{Alarm}
 use Rattle.record.specs.declared.Limits.{Limits}
+use Rattle.record.specs.declared.Parameters.{Parameters}
 use Rattle.table.specs.declared.Table.{Table}
 use Rattle.table.specs.Table.{members, isOn, placeOf, memberAt}
 
 abbrev pub withAnalog : Analog → Module → Module
-withAnalog a m = record { adr = m .adr; on = m .on; «link_fault» = m .«link_fault»; analog = a; alarm = m .alarm; limits = m .limits; serial = m .serial; version = m .version }
+withAnalog a m = record { adr = m .adr; on = m .on; «link_fault» = m .«link_fault»; analog = a; alarm = m .alarm; limits = m .limits; serial = m .serial; version = m .version; parameters = m .parameters }
 
 abbrev pub withAlarm : Alarm → Module → Module
-withAlarm a m = record { adr = m .adr; on = m .on; «link_fault» = m .«link_fault»; analog = m .analog; alarm = a; limits = m .limits; serial = m .serial; version = m .version }
+withAlarm a m = record { adr = m .adr; on = m .on; «link_fault» = m .«link_fault»; analog = m .analog; alarm = a; limits = m .limits; serial = m .serial; version = m .version; parameters = m .parameters }
 
 abbrev pub withLimits : Limits → Module → Module
-withLimits l m = record { adr = m .adr; on = m .on; «link_fault» = m .«link_fault»; analog = m .analog; alarm = m .alarm; limits = l; serial = m .serial; version = m .version }
+withLimits l m = record { adr = m .adr; on = m .on; «link_fault» = m .«link_fault»; analog = m .analog; alarm = m .alarm; limits = l; serial = m .serial; version = m .version; parameters = m .parameters }
 
 abbrev pub withSerial : List ℕ → Module → Module
-withSerial s m = record { adr = m .adr; on = m .on; «link_fault» = m .«link_fault»; analog = m .analog; alarm = m .alarm; limits = m .limits; serial = s; version = m .version }
+withSerial s m = record { adr = m .adr; on = m .on; «link_fault» = m .«link_fault»; analog = m .analog; alarm = m .alarm; limits = m .limits; serial = s; version = m .version; parameters = m .parameters }
 
 abbrev pub withVersion : List ℕ → Module → Module
-withVersion v m = record { adr = m .adr; on = m .on; «link_fault» = m .«link_fault»; analog = m .analog; alarm = m .alarm; limits = m .limits; serial = m .serial; version = v }
+withVersion v m = record { adr = m .adr; on = m .on; «link_fault» = m .«link_fault»; analog = m .analog; alarm = m .alarm; limits = m .limits; serial = m .serial; version = v; parameters = m .parameters }
+
+abbrev pub withParameters : Parameters → Module → Module
+withParameters p m = record { adr = m .adr; on = m .on; «link_fault» = m .«link_fault»; analog = m .analog; alarm = m .alarm; limits = m .limits; serial = m .serial; version = m .version; parameters = p }
 
 -- off, and all else as it was
 abbrev pub switchedOff : Module → Module
-switchedOff m = record { adr = m .adr; on = 0; «link_fault» = m .«link_fault»; analog = m .analog; alarm = m .alarm; limits = m .limits; serial = m .serial; version = m .version }
+switchedOff m = record { adr = m .adr; on = 0; «link_fault» = m .«link_fault»; analog = m .analog; alarm = m .alarm; limits = m .limits; serial = m .serial; version = m .version; parameters = m .parameters }
 
 -- a record in the place of the one with an ADR; where there is none, nothing changes
 abbrev pub stored : ℕ → Module → List Module → List Module

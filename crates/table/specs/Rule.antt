@@ -9,13 +9,14 @@ use Rattle.record.specs.Address.{isAddress}
 use Rattle.record.specs.Analog.{analog}
 use Rattle.record.specs.Alarm.{alarm}
 use Rattle.record.specs.Limits.{limits}
+use Rattle.record.specs.Parameters.{parameters}
 use Rattle.record.specs.Texts.{serial, version}
 use Rattle.table.specs.declared.Table.{Table}
 use Rattle.table.specs.Table.{blank, members}
 
 -- every value can be encoded (list places beyond M or N are 0 then)
 unfoldable pub encodable : Module → Bool
-encodable m = (analog .ok (m .analog) && alarm .ok (m .alarm)) && (limits .ok (m .limits) && (serial .ok (m .serial) && version .ok (m .version)))
+encodable m = (analog .ok (m .analog) && alarm .ok (m .alarm)) && (limits .ok (m .limits) && (serial .ok (m .serial) && (version .ok (m .version) && parameters .ok (m .parameters))))
 
 -- one record by itself
 unfoldable pub fine : Module → Bool

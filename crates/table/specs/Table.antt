@@ -8,7 +8,7 @@ use lib.IntN.{pos}
 use Rattle.record.specs.declared.Module.{Module}
 use Rattle.record.specs.Analog.{toAnalog}
 use Rattle.record.specs.Alarm.{toAlarm}
-use Rattle.record.specs.Nothing.{noList, noCapacities, noAnalog, noCodes, noSingles, noStatus, noAlarm, noLimits, noSerial, noVersion}
+use Rattle.record.specs.Nothing.{noList, noCapacities, noAnalog, noCodes, noSingles, noStatus, noAlarm, noLimits, noSerial, noVersion, noParameters}
 use Rattle.table.specs.declared.Table.{Table}
 
 -- the records that are there
@@ -37,6 +37,7 @@ blank = record {
   limits = noLimits;
   serial = noSerial;
   version = noVersion;
+  parameters = noParameters;
 }
 
 -- a record before anything was read into it: on, without a link fault, one cell and one temperature as the least that can be sent, and 0 in every other place
@@ -50,6 +51,7 @@ newModule adr = record {
   limits = noLimits;
   serial = noSerial;
   version = noVersion;
+  parameters = noParameters;
 }
 
 -- the place of the first record with this ADR, or the length

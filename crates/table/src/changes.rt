@@ -3,12 +3,13 @@
 ghost use mathlib.Core.Path.{_≡_};
 ghost use lib.ListN.{take};
 ghost use Rattle.table.specs.Table.{members};
-ghost use Rattle.table.specs.Changes.{stored, replaced, fitted, dealt, withAnalog, withAlarm, withLimits, withSerial, withVersion, TableIs};
+ghost use Rattle.table.specs.Changes.{stored, replaced, fitted, dealt, withAnalog, withAlarm, withLimits, withSerial, withVersion, withParameters, TableIs};
 use crate::Table;
 use record::Alarm;
 use record::Analog;
 use record::Limits;
 use record::Module;
+use record::Parameters;
 
 // A record put in the place of the one with an ADR; where there is none, the table as it is.
 fn placed(table: Table, adr: u8, member: Module) -> Table
@@ -65,6 +66,15 @@ pub fn with_version(table: Table, adr: u8, version: [u8; 5]) -> Table
 {
     let mut member = crate::member_at(table, adr);
     member.version = version;
+    placed(table, adr, member)
+}
+
+// The parameters of the record with an ADR, replaced.
+pub fn with_parameters(table: Table, adr: u8, parameters: Parameters) -> Table
+    ensures { λ r. ⌜ TableIs table (replaced adr (withParameters parameters) (members table)) r ⌝ }
+{
+    let mut member = crate::member_at(table, adr);
+    member.parameters = parameters;
     placed(table, adr, member)
 }
 

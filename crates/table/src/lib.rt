@@ -34,6 +34,7 @@ pub fn blank_module() -> Module
         limits: record::zero_limits(),
         serial: [0; 16],
         version: [0; 5],
+        parameters: record::zero_parameters(),
     }
 }
 
@@ -56,6 +57,7 @@ pub fn new_module(adr: u8) -> Module
         limits: record::zero_limits(),
         serial: [0; 16],
         version: [0; 5],
+        parameters: record::zero_parameters(),
     }
 }
 

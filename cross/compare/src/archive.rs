@@ -42,6 +42,20 @@ const RECORD: Module = Module {
     },
     serial: [0xA5; 16],
     version: [0xA5; 5],
+    parameters: linked::Parameters {
+        cell_high_voltage: 0x5A5A,
+        cell_low_voltage: 0x5A5A,
+        cell_under_voltage: 0x5A5A,
+        charge_high_temperature: 0x5A5A,
+        charge_low_temperature: 0x5A5A,
+        charge_current: 0x5A5A,
+        module_high_voltage: 0xA5A5,
+        module_low_voltage: 0xA5A5,
+        module_under_voltage: 0xA5A5,
+        discharge_high_temperature: 0x5A5A,
+        discharge_low_temperature: 0x5A5A,
+        discharge_current: 0x5A5A,
+    },
 };
 
 /// A copy of what is lent, between guards.
@@ -162,6 +176,7 @@ pub fn outcome(case: &Case) -> Outcome {
             Returned::Written(match kind {
                 Kind::Analog => linked::write_analog(*module, *flag, out),
                 Kind::Alarm => linked::write_alarm(*module, *flag, out),
+                Kind::Parameters => linked::write_parameters(*module, *flag, out),
                 Kind::Limits => linked::write_limits(*module, out),
                 Kind::Serial => linked::write_serial(*module, out),
                 Kind::Version => linked::write_version(*module, out),

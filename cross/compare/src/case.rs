@@ -13,6 +13,8 @@ pub enum Kind {
     Analog,
     /// 44H.
     Alarm,
+    /// 47H.
+    Parameters,
     /// 92H.
     Limits,
     /// 93H.
@@ -174,6 +176,7 @@ impl Case {
             Case::WriteRecord { kind, .. } => match kind {
                 Kind::Analog => "hanuzak_write_analog",
                 Kind::Alarm => "hanuzak_write_alarm",
+                Kind::Parameters => "hanuzak_write_parameters",
                 Kind::Limits => "hanuzak_write_limits",
                 Kind::Serial => "hanuzak_write_serial",
                 Kind::Version => "hanuzak_write_version",

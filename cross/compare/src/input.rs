@@ -43,6 +43,9 @@ const MANY: u8 = 15;
 const RARE: u8 = 200;
 /// The functions, and the stream.
 const FORMS: u8 = 25;
+/// The form of one function more: a byte that no kept input begins with, so that each of them stands
+/// for the same call as before.
+const PARAMETERS: u8 = 0xFF;
 
 const KINDS: [Kind; 5] = [
     Kind::Analog,
@@ -56,7 +59,10 @@ const GROUPS: [Group; 2] = [Group::Analog, Group::Alarm];
 /// The calls that the bytes stand for.
 pub fn decoded(data: &[u8]) -> Input {
     let bytes = &mut Bytes::new(data);
-    let form = bytes.byte() % FORMS;
+    let form = match bytes.byte() {
+        PARAMETERS => PARAMETERS,
+        byte => byte % FORMS,
+    };
     Input::Call(match form {
         0 => Case::Judge {
             stretch: stretch(bytes),
@@ -76,12 +82,8 @@ pub fn decoded(data: &[u8]) -> Input {
             out: filled(bytes),
             info: filled(bytes),
         },
-        4..=8 => Case::WriteRecord {
-            kind: KINDS[usize::from(form) - 4],
-            flag: bytes.byte(),
-            module: record(bytes, 0x02),
-            out: filled(bytes),
-        },
+        4..=8 => record_case(bytes, KINDS[usize::from(form) - 4]),
+        PARAMETERS => record_case(bytes, Kind::Parameters),
         9..=10 => Case::WriteGroup {
             group: GROUPS[usize::from(form) - 9],
             flag: bytes.byte(),
@@ -234,6 +236,15 @@ fn table(bytes: &mut Bytes) -> Vec<Module> {
     (0..count).map(|place| record(bytes, 2 + place)).collect()
 }
 
+fn record_case(bytes: &mut Bytes, kind: Kind) -> Case {
+    Case::WriteRecord {
+        kind,
+        flag: bytes.byte(),
+        module: record(bytes, 0x02),
+        out: filled(bytes),
+    }
+}
+
 /// A question with a stretch of any kind, or with the reply that the stand-in gives from the table,
 /// right or damaged.
 fn reply_case(bytes: &mut Bytes) -> Case {
@@ -324,7 +335,7 @@ pub fn encoded(case: &Case) -> Vec<u8> {
             out,
         } => {
             let at = KINDS.iter().position(|other| other == kind);
-            data.extend([4 + at.unwrap_or(0) as u8, *flag]);
+            data.extend([at.map_or(PARAMETERS, |at| 4 + at as u8), *flag]);
             put_record(&mut data, module, 0x02);
             put_filled(&mut data, out);
         }

@@ -95,7 +95,7 @@ pub fn buffer(seeded: &mut Seeded, length: usize) -> Vec<u8> {
 pub fn reply(table: &[reference::Module], question: linked::Question) -> Vec<u8> {
     let linked::Question { adr, cid2, command } = question;
     let info = match cid2 {
-        0x4F | 0x51 => vec![],
+        0x47 | 0x4F | 0x51 => vec![],
         _ => vec![command],
     };
     let station = reference::Station {

@@ -255,6 +255,7 @@ pub fn outcome(case: &Case) -> Outcome {
             written(match kind {
                 Kind::Analog => reference::write_analog(module, *flag, out),
                 Kind::Alarm => reference::write_alarm(module, *flag, out),
+                Kind::Parameters => reference::write_parameters(module, *flag, out),
                 Kind::Limits => reference::write_limits(module, out),
                 Kind::Serial => reference::write_serial(module, out),
                 Kind::Version => reference::write_version(module, out),

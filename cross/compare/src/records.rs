@@ -1,7 +1,7 @@
 //! Records of one side as records of the other, and as rows of bytes.
 
 use crate::bytes::Bytes;
-use linked::{Alarm, Analog, Limits, Module};
+use linked::{Alarm, Analog, Limits, Module, Parameters};
 
 /// A record for the reference.
 pub fn reference_of(module: &Module) -> reference::Module {
@@ -9,6 +9,7 @@ pub fn reference_of(module: &Module) -> reference::Module {
         analog,
         alarm,
         limits,
+        parameters,
         ..
     } = module;
     reference::Module {
@@ -45,6 +46,20 @@ pub fn reference_of(module: &Module) -> reference::Module {
         },
         serial: module.serial,
         version: module.version,
+        parameters: reference::Parameters {
+            cell_high_voltage: parameters.cell_high_voltage,
+            cell_low_voltage: parameters.cell_low_voltage,
+            cell_under_voltage: parameters.cell_under_voltage,
+            charge_high_temperature: parameters.charge_high_temperature,
+            charge_low_temperature: parameters.charge_low_temperature,
+            charge_current: parameters.charge_current,
+            module_high_voltage: parameters.module_high_voltage,
+            module_low_voltage: parameters.module_low_voltage,
+            module_under_voltage: parameters.module_under_voltage,
+            discharge_high_temperature: parameters.discharge_high_temperature,
+            discharge_low_temperature: parameters.discharge_low_temperature,
+            discharge_current: parameters.discharge_current,
+        },
     }
 }
 
@@ -54,6 +69,7 @@ pub fn linked_of(module: &reference::Module) -> Module {
         analog,
         alarm,
         limits,
+        parameters,
         ..
     } = module;
     Module {
@@ -90,6 +106,20 @@ pub fn linked_of(module: &reference::Module) -> Module {
         },
         serial: module.serial,
         version: module.version,
+        parameters: Parameters {
+            cell_high_voltage: parameters.cell_high_voltage,
+            cell_low_voltage: parameters.cell_low_voltage,
+            cell_under_voltage: parameters.cell_under_voltage,
+            charge_high_temperature: parameters.charge_high_temperature,
+            charge_low_temperature: parameters.charge_low_temperature,
+            charge_current: parameters.charge_current,
+            module_high_voltage: parameters.module_high_voltage,
+            module_low_voltage: parameters.module_low_voltage,
+            module_under_voltage: parameters.module_under_voltage,
+            discharge_high_temperature: parameters.discharge_high_temperature,
+            discharge_low_temperature: parameters.discharge_low_temperature,
+            discharge_current: parameters.discharge_current,
+        },
     }
 }
 
@@ -104,7 +134,7 @@ pub fn linked_table(table: &[reference::Module]) -> Vec<Module> {
 }
 
 /// How many bytes a record's fields have, without padding.
-pub const PACKED: usize = 131;
+pub const PACKED: usize = 155;
 
 /// A record's fields one after the other, numbers high byte first.
 pub fn packed(module: &Module) -> [u8; PACKED] {
@@ -112,6 +142,7 @@ pub fn packed(module: &Module) -> [u8; PACKED] {
         analog,
         alarm,
         limits,
+        parameters,
         ..
     } = module;
     let mut row = vec![module.adr, module.on, module.link_fault];
@@ -141,6 +172,18 @@ pub fn packed(module: &Module) -> [u8; PACKED] {
     row.push(limits.status);
     row.extend(module.serial);
     row.extend(module.version);
+    row.extend(parameters.cell_high_voltage.to_be_bytes());
+    row.extend(parameters.cell_low_voltage.to_be_bytes());
+    row.extend(parameters.cell_under_voltage.to_be_bytes());
+    row.extend(parameters.charge_high_temperature.to_be_bytes());
+    row.extend(parameters.charge_low_temperature.to_be_bytes());
+    row.extend(parameters.charge_current.to_be_bytes());
+    row.extend(parameters.module_high_voltage.to_be_bytes());
+    row.extend(parameters.module_low_voltage.to_be_bytes());
+    row.extend(parameters.module_under_voltage.to_be_bytes());
+    row.extend(parameters.discharge_high_temperature.to_be_bytes());
+    row.extend(parameters.discharge_low_temperature.to_be_bytes());
+    row.extend(parameters.discharge_current.to_be_bytes());
     let mut packed = [0; PACKED];
     packed.copy_from_slice(&row);
     packed
@@ -183,6 +226,20 @@ pub fn unpacked(row: &[u8; PACKED]) -> Module {
         },
         serial: bytes.row(),
         version: bytes.row(),
+        parameters: Parameters {
+            cell_high_voltage: bytes.word() as i16,
+            cell_low_voltage: bytes.word() as i16,
+            cell_under_voltage: bytes.word() as i16,
+            charge_high_temperature: bytes.word() as i16,
+            charge_low_temperature: bytes.word() as i16,
+            charge_current: bytes.word() as i16,
+            module_high_voltage: bytes.word(),
+            module_low_voltage: bytes.word(),
+            module_under_voltage: bytes.word(),
+            discharge_high_temperature: bytes.word() as i16,
+            discharge_low_temperature: bytes.word() as i16,
+            discharge_current: bytes.word() as i16,
+        },
     }
 }
 

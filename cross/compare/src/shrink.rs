@@ -330,6 +330,23 @@ impl<F: Fn(&Case) -> bool> Search<F> {
         changed
     }
 
+    /// Drops first records, and lowers the place so that it names the same one.
+    fn front(&mut self) -> bool {
+        let mut changed = false;
+        while self.attempt(|parts| {
+            let (Some(table), [(_, at)]) = (&mut parts.table, &mut parts.sizes[..]) else {
+                return;
+            };
+            if !table.is_empty() {
+                table.remove(0);
+                **at = at.saturating_sub(1);
+            }
+        }) {
+            changed = true;
+        }
+        changed
+    }
+
     fn module(&mut self, at: usize) -> bool {
         self.chunks(
             |_| PACKED,
@@ -373,7 +390,7 @@ impl<F: Fn(&Case) -> bool> Search<F> {
 
     /// Everything once; whether something became smaller.
     fn pass(&mut self) -> bool {
-        let mut changed = self.reply() | self.table() | self.lent();
+        let mut changed = self.reply() | self.front() | self.table() | self.lent();
         for at in 0..self.count(|parts| parts.texts.len()) {
             changed |= self.text(at);
         }

@@ -35,6 +35,8 @@ pub enum End {
     Refused(u32),
     /// The reply to a question with FFH was refused with this number.
     GroupRefused(u32),
+    /// The reply to 47H was refused with this number.
+    ParametersRefused(u32),
 }
 
 impl fmt::Display for End {
@@ -53,6 +55,7 @@ impl fmt::Display for End {
             End::GroupData(cid2) => write!(f, "data {cid2:02X}H FFH"),
             End::Refused(number) => write!(f, "no. {number}"),
             End::GroupRefused(number) => write!(f, "FFH no. {number}"),
+            End::ParametersRefused(number) => write!(f, "47H no. {number}"),
         }
     }
 }
@@ -117,6 +120,7 @@ fn read(question: &Question, reply: &linked::Reply) -> End {
         (1, 0) => End::Data(question.cid2),
         (1, code) => End::Code(code),
         _ if group => End::GroupRefused(reply.number),
+        _ if question.cid2 == 0x47 => End::ParametersRefused(reply.number),
         _ => End::Refused(reply.number),
     }
 }
@@ -226,6 +230,7 @@ fn required() -> Vec<(&'static str, End)> {
         "hanuzak_write_frame",
         "hanuzak_write_analog",
         "hanuzak_write_alarm",
+        "hanuzak_write_parameters",
         "hanuzak_write_limits",
         "hanuzak_write_serial",
         "hanuzak_write_version",
@@ -246,7 +251,7 @@ fn required() -> Vec<(&'static str, End)> {
     for function in ["hanuzak_record", "hanuzak_replace", "hanuzak_switch_off"] {
         add(function, vec![End::Inside, End::Past]);
     }
-    let commands = [0x42, 0x44, 0x4F, 0x51, 0x92, 0x93, 0x95, 0x96];
+    let commands = [0x42, 0x44, 0x47, 0x4F, 0x51, 0x92, 0x93, 0x95, 0x96];
     for function in ["hanuzak_answer", "hanuzak_read_reply"] {
         add(function, commands.map(End::Data).to_vec());
         add(function, [0x42, 0x44].map(End::GroupData).to_vec());
@@ -265,6 +270,12 @@ fn required() -> Vec<(&'static str, End)> {
     add(
         "hanuzak_read_reply",
         (11..=22).map(End::GroupRefused).collect(),
+    );
+    // 47H has no count, no code, no capacity and no Command in its reply.
+    let parameters = [11, 12, 13, 14, 16, 17];
+    add(
+        "hanuzak_read_reply",
+        parameters.map(End::ParametersRefused).to_vec(),
     );
     add("hanuzak_listing_new", vec![End::Plain]);
     add("hanuzak_list", vec![End::Plain, End::Wrote]);

@@ -5,7 +5,7 @@ use compare::case::{Case, Outcome, Returned};
 use compare::difference::{Comparison, Done};
 use compare::kinds::{frames, listing, meanings, receiver, reply, standin, tables, writers};
 use compare::{input, paper};
-use linked::{Event, Module};
+use linked::{Event, Module, Parameters, Question};
 use reference::seeded::Seeded;
 
 type Side = fn(&Case) -> Outcome;
@@ -591,6 +591,217 @@ fn code_and_info_are_judged_the_other_way_round() {
         },
         20,
     );
+}
+
+/// The reference's outcome of a call that has to do with 47H alone, changed.
+fn with_parameters(case: &Case, change: impl Fn(&mut Parameters)) -> Outcome {
+    let mut case = case.clone();
+    match &mut case {
+        Case::WriteRecord { module, .. } => change(&mut module.parameters),
+        Case::Answer { table, .. } => table.iter_mut().for_each(|m| change(&mut m.parameters)),
+        _ => {}
+    }
+    paper::outcome(&case)
+}
+
+#[test]
+fn low_and_under_are_written_for_each_other() {
+    let case = found(
+        writers::all,
+        |case| {
+            with_parameters(case, |limits| {
+                core::mem::swap(
+                    &mut limits.module_low_voltage,
+                    &mut limits.module_under_voltage,
+                );
+            })
+        },
+        16,
+    );
+    let Case::WriteRecord { module, .. } = case else {
+        panic!("{case:?}");
+    };
+    let limits = module.parameters;
+    assert_ne!(limits.module_low_voltage, limits.module_under_voltage);
+}
+
+#[test]
+fn the_stand_in_sends_charge_for_discharge() {
+    found(
+        standin::all,
+        |case| {
+            with_parameters(case, |limits| {
+                core::mem::swap(&mut limits.charge_current, &mut limits.discharge_current);
+            })
+        },
+        70,
+    );
+}
+
+#[test]
+fn a_module_voltage_is_held_below_32768() {
+    // As one would who keeps it in a signed number.
+    found(
+        writers::all,
+        |case| with_parameters(case, |limits| limits.module_high_voltage &= 0x7FFF),
+        16,
+    );
+}
+
+#[test]
+fn a_module_with_a_fault_does_not_answer_47h() {
+    let case = found(
+        standin::all,
+        |case| {
+            let mut outcome = paper::outcome(case);
+            let Case::Answer { table, stretch, .. } = case else {
+                return outcome;
+            };
+            let asked = reference::judge(stretch).map(|frame| frame.header);
+            if let (Ok(header), Returned::Answered(answered)) = (asked, &mut outcome.returned) {
+                let mut faulty = table.iter().filter(|m| m.adr == header.adr);
+                let faulty = faulty.any(|module| module.link_fault == 1);
+                if header.cid2 == 0x47 && faulty && answered.kind == 1 {
+                    answered.length = 18;
+                }
+            }
+            outcome
+        },
+        70,
+    );
+    let Case::Answer { table, .. } = case else {
+        panic!("{case:?}");
+    };
+    assert_eq!((table.len(), table[0].link_fault), (1, 1));
+}
+
+#[test]
+fn the_stand_in_wants_a_command_with_47h() {
+    found(
+        standin::all,
+        |case| {
+            let mut case = case.clone();
+            if let Case::Answer { stretch, .. } = &mut case {
+                if let Some(([ver, adr, 0x46, 0x47], _)) = compare::made::opened(stretch) {
+                    *stretch = compare::made::stretch([ver, adr, 0x46, 0x47], &[adr]);
+                }
+            }
+            paper::outcome(&case)
+        },
+        70,
+    );
+}
+
+/// A reply to 47H: the question and the outcome, which may be changed.
+fn reading_parameters(case: &Case, change: impl FnOnce(&Question, &mut Outcome)) -> Outcome {
+    let mut outcome = paper::outcome(case);
+    if let Case::ReadReply { question, .. } = case {
+        if question.cid2 == 0x47 {
+            change(question, &mut outcome);
+        }
+    }
+    outcome
+}
+
+#[test]
+fn the_reader_takes_the_third_row_for_the_modules() {
+    found(
+        reply::all,
+        |case| {
+            reading(case, |before, outcome| {
+                for (after, before) in outcome.table.iter_mut().zip(before) {
+                    if after.parameters != before.parameters {
+                        let third = after.parameters.cell_under_voltage;
+                        after.parameters.module_under_voltage = third as u16;
+                    }
+                }
+            })
+        },
+        60,
+    );
+}
+
+#[test]
+fn the_reader_wants_the_command_of_47h() {
+    let case = found(
+        reply::all,
+        |case| {
+            reading_parameters(case, |question, outcome| {
+                if let (true, Returned::Reply(reply)) =
+                    (question.command != question.adr, &mut outcome.returned)
+                {
+                    (reply.kind, reply.number) = (2, 34);
+                }
+            })
+        },
+        // A stretch that is no frame, and one record.
+        30,
+    );
+    assert!(matches!(case, Case::ReadReply { .. }));
+}
+
+#[test]
+fn the_flag_of_47h_is_not_returned() {
+    found(
+        reply::all,
+        |case| {
+            reading_parameters(case, |_, outcome| {
+                if let Returned::Reply(reply) = &mut outcome.returned {
+                    reply.flag = 0;
+                }
+            })
+        },
+        60,
+    );
+}
+
+#[test]
+fn a_byte_behind_the_twelve_limits_is_not_seen() {
+    let case = found(
+        reply::all,
+        |case| {
+            let mut shorter = case.clone();
+            if let Case::ReadReply {
+                question, stretch, ..
+            } = &mut shorter
+            {
+                match compare::made::opened(stretch) {
+                    Some((header, info)) if question.cid2 == 0x47 && info.len() == 26 => {
+                        *stretch = compare::made::stretch(header, &info[..25]);
+                    }
+                    _ => {}
+                }
+            }
+            paper::outcome(&shorter)
+        },
+        60,
+    );
+    let Case::ReadReply { stretch, .. } = case else {
+        panic!("{case:?}");
+    };
+    assert_eq!(stretch.len(), 16 + 2 * 26);
+}
+
+#[test]
+fn limits_of_the_group_are_replaced() {
+    let case = found(
+        reply::all,
+        |case| {
+            reading_parameters(case, |question, outcome| {
+                let asked = outcome.table.iter().find(|m| m.adr == question.adr);
+                if let (Some(asked), 0xFF) = (asked.copied(), question.command) {
+                    for module in &mut outcome.table {
+                        module.parameters = asked.parameters;
+                    }
+                }
+            })
+        },
+        60,
+    );
+    let Case::ReadReply { table, .. } = case else {
+        panic!("{case:?}");
+    };
+    assert_eq!(table.len(), 2);
 }
 
 /// A listing's outcome with each line changed, or dropped where it becomes empty.

@@ -25,15 +25,18 @@ fn stack() -> Vec<u8> {
     line.extend(stack.ask(VER, 0x02, 0x51, &[]));
     line.extend(stack.ask(VER, 0x02, 0x42, &[0xFF]));
     line.extend(stack.ask(VER, 0x02, 0x44, &[0xFF]));
+    // The first tells its limits before its own cells, the second after them, the third is off by then.
+    line.extend(stack.ask(VER, 0x02, 0x47, &[]));
     for adr in [0x02, 0x03, 0x04] {
         for cid2 in [0x42, 0x44, 0x92, 0x93, 0x96] {
             line.extend(stack.ask(VER, adr, cid2, &[adr]));
         }
     }
+    line.extend(stack.ask(VER, 0x03, 0x47, &[]));
     // Not there: silence. Another VER: 01H. Not served: 04H. A Command too many: 05H.
     line.extend(stack.ask(VER, 0x05, 0x42, &[0x05]));
     line.extend(stack.ask(0x21, 0x03, 0x42, &[0x03]));
-    line.extend(stack.ask(VER, 0x02, 0x47, &[]));
+    line.extend(stack.ask(VER, 0x02, 0x94, &[0x02]));
     line.extend(stack.ask(VER, 0x02, 0x51, &[0x02]));
     // FFH at a slave: 06H. A Command that isn't ADR: 90H.
     line.extend(stack.ask(VER, 0x03, 0x42, &[0xFF]));
@@ -41,6 +44,7 @@ fn stack() -> Vec<u8> {
     // The third goes off, is silent from then on, and is gone from the group.
     line.extend(stack.ask(VER, 0x04, 0x95, &[0x04]));
     line.extend(stack.ask(VER, 0x04, 0x42, &[0x04]));
+    line.extend(stack.ask(VER, 0x04, 0x47, &[]));
     stack.discharge();
     line.extend(stack.ask(VER, 0x02, 0x42, &[0xFF]));
     line

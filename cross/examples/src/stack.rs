@@ -1,6 +1,8 @@
 //! A small stack on the bench, and what goes over the line between it and its master.
 
-use reference::{answer, write_frame, Alarm, Analog, Answer, Header, Limits, Module, Station};
+use reference::{
+    answer, write_frame, Alarm, Analog, Answer, Header, Limits, Module, Parameters, Station,
+};
 
 /// VER of the stack.
 pub const VER: u8 = 0x20;
@@ -26,7 +28,8 @@ pub struct Stack {
 }
 
 impl Stack {
-    /// Three modules. The second has six temperature points, the third 74 Ah.
+    /// Three modules. The second has six temperature points, and its cell 7 is above its high limit,
+    /// as its alarm says; its cell 15 is at the limit. The third has 74 Ah.
     pub fn new() -> Self {
         let mut second = module(0x03, -4);
         second.analog.temperature_count = 6;
@@ -34,6 +37,7 @@ impl Stack {
         second.alarm.temperature_count = 6;
         second.alarm.cells[6] = 0x02;
         second.alarm.status[3] = 0x40;
+        second.parameters.cell_high_voltage = 3_400;
         let mut third = module(0x04, 7);
         third.analog.remaining = 51_800;
         third.analog.total = 74_000;
@@ -122,6 +126,20 @@ fn module(adr: u8, millivolts: i16) -> Module {
         },
         serial: *b"HZK2024B00000000",
         version: [0x01, 0x04, 0x02, 0x07, 0x00],
+        parameters: Parameters {
+            cell_high_voltage: 3_700,
+            cell_low_voltage: 3_050,
+            cell_under_voltage: 2_900,
+            charge_high_temperature: celsius(500),
+            charge_low_temperature: celsius(0),
+            charge_current: 250,
+            module_high_voltage: 53_250,
+            module_low_voltage: 47_000,
+            module_under_voltage: 44_500,
+            discharge_high_temperature: celsius(600),
+            discharge_low_temperature: celsius(-100),
+            discharge_current: -250,
+        },
     };
     let cells = [3, -2, 1, 0, -4, 2, 5, -1, 0, 1, -3, 2, 0, -1, 4];
     for (place, offset) in cells.into_iter().enumerate() {

@@ -12,8 +12,8 @@ mod sys;
 mod types;
 
 pub use types::{
-    Alarm, Analog, Answered, Event, Limits, Listed, Listing, Module, Question, Ran, Receiver,
-    Reply, Station, Stepped, Written,
+    Alarm, Analog, Answered, Event, Limits, Listed, Listing, Module, Parameters, Question, Ran,
+    Receiver, Reply, Station, Stepped, Written,
 };
 
 /// The least store of a receiver.
@@ -73,6 +73,12 @@ pub fn write_analog(module: Module, flag: u8, out: &mut [u8]) -> Written {
 pub fn write_alarm(module: Module, flag: u8, out: &mut [u8]) -> Written {
     // SAFETY: the slice is ours alone for its length.
     unsafe { sys::hanuzak_write_alarm(module, flag, out.as_mut_ptr(), out.len()) }
+}
+
+/// INFO of 47H: 33, then 32.
+pub fn write_parameters(module: Module, flag: u8, out: &mut [u8]) -> Written {
+    // SAFETY: the slice is ours alone for its length.
+    unsafe { sys::hanuzak_write_parameters(module, flag, out.as_mut_ptr(), out.len()) }
 }
 
 /// INFO of 92H: 33, then 32.

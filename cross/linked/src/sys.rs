@@ -25,6 +25,7 @@ extern "C" {
     ) -> Written;
     pub fn hanuzak_write_analog(module: Module, flag: u8, out: *mut u8, n: usize) -> Written;
     pub fn hanuzak_write_alarm(module: Module, flag: u8, out: *mut u8, n: usize) -> Written;
+    pub fn hanuzak_write_parameters(module: Module, flag: u8, out: *mut u8, n: usize) -> Written;
     pub fn hanuzak_write_limits(module: Module, out: *mut u8, n: usize) -> Written;
     pub fn hanuzak_write_serial(module: Module, out: *mut u8, n: usize) -> Written;
     pub fn hanuzak_write_version(module: Module, out: *mut u8, n: usize) -> Written;

@@ -62,6 +62,36 @@ pub struct Limits {
     pub status: u8,
 }
 
+/// What 47H carries: the module's own limits.
+#[repr(C)]
+#[derive(Clone, Copy, Debug, Default, PartialEq, Eq)]
+pub struct Parameters {
+    /// mV.
+    pub cell_high_voltage: i16,
+    /// mV, alarm.
+    pub cell_low_voltage: i16,
+    /// mV, protection.
+    pub cell_under_voltage: i16,
+    /// As on the wire.
+    pub charge_high_temperature: i16,
+    /// As on the wire.
+    pub charge_low_temperature: i16,
+    /// 100 mA.
+    pub charge_current: i16,
+    /// mV.
+    pub module_high_voltage: u16,
+    /// mV, alarm.
+    pub module_low_voltage: u16,
+    /// mV, protection.
+    pub module_under_voltage: u16,
+    /// As on the wire.
+    pub discharge_high_temperature: i16,
+    /// As on the wire.
+    pub discharge_low_temperature: i16,
+    /// 100 mA.
+    pub discharge_current: i16,
+}
+
 /// One module. `on` and `link_fault` are bytes 0 or 1; any other breaks the table's rule.
 #[repr(C)]
 #[derive(Clone, Copy, Debug, Default, PartialEq, Eq)]
@@ -82,6 +112,8 @@ pub struct Module {
     pub serial: [u8; 16],
     /// 96H.
     pub version: [u8; 5],
+    /// 47H.
+    pub parameters: Parameters,
 }
 
 /// What the table holds beside its records.
@@ -198,7 +230,7 @@ pub struct Answered {
     pub length: usize,
 }
 
-/// What was asked. `command` is ignored with 4FH and 51H.
+/// What was asked. `command` is ignored with 47H, 4FH and 51H.
 #[repr(C)]
 #[derive(Clone, Copy, Debug, Default, PartialEq, Eq)]
 pub struct Question {
@@ -222,7 +254,7 @@ pub struct Reply {
     pub ver: u8,
     /// The return code.
     pub code: u8,
-    /// The flag of 42H and 44H with code 00H.
+    /// The flag of 42H, 44H and 47H with code 00H.
     pub flag: u8,
     /// The 32 bytes of 51H; zeros for every other command and with a refusal.
     pub maker: [u8; 32],

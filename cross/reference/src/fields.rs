@@ -1,7 +1,9 @@
 //! The field reader, which holds INFO and its place in it, and on it the records in byte order
 //! (PROTOCOL 9).
 
-use crate::module::{is_cell_count, is_code, is_temperature_count, Alarm, Analog, Limits, SMALL};
+use crate::module::{
+    is_cell_count, is_code, is_temperature_count, Alarm, Analog, Limits, Parameters, SMALL,
+};
 use crate::Number;
 
 /// INFO and a place in it.
@@ -150,6 +152,25 @@ pub fn next_alarm(fields: &mut Fields) -> Result<Alarm, Number> {
     alarm.discharge_current = next_code(fields)?;
     alarm.status = next_bytes(fields)?;
     Ok(alarm)
+}
+
+/// The record of 47H (PROTOCOL 9.23): twelve words in the order of V3.3's rows. The module's voltages
+/// are unsigned, all else is signed (PROTOCOL 9.24).
+pub fn next_parameters(fields: &mut Fields) -> Result<Parameters, Number> {
+    Ok(Parameters {
+        cell_high_voltage: next_signed(fields)?,
+        cell_low_voltage: next_signed(fields)?,
+        cell_under_voltage: next_signed(fields)?,
+        charge_high_temperature: next_signed(fields)?,
+        charge_low_temperature: next_signed(fields)?,
+        charge_current: next_signed(fields)?,
+        module_high_voltage: fields.next_word()?,
+        module_low_voltage: fields.next_word()?,
+        module_under_voltage: fields.next_word()?,
+        discharge_high_temperature: next_signed(fields)?,
+        discharge_low_temperature: next_signed(fields)?,
+        discharge_current: next_signed(fields)?,
+    })
 }
 
 /// The record of 92H (PROTOCOL 9.17): two voltage limits, two current limits, status.

@@ -1,7 +1,7 @@
-//! INFO with a Command byte: a record writer for each kind (PROTOCOL 10). Each gives INFO as bytes,
-//! says how many, and changes no other byte.
+//! INFO that is made from a record: a record writer for each kind (PROTOCOL 10). Each gives INFO as
+//! bytes, says how many, and changes no other byte.
 
-use crate::module::{is_address, items, used, Alarm, Analog, Limits, Module};
+use crate::module::{is_address, items, used, Alarm, Analog, Limits, Module, Parameters};
 use crate::{table, Number};
 
 /// Command for the whole group, at the master (PROTOCOL 5.9).
@@ -52,6 +52,25 @@ fn alarm_record(alarm: &Alarm) -> Option<Vec<u8>> {
     bytes.push(alarm.discharge_current);
     bytes.extend(alarm.status);
     Some(bytes)
+}
+
+/// The record of 47H: each limit in two bytes, high byte first.
+fn parameters_record(parameters: &Parameters) -> Vec<u8> {
+    [
+        parameters.cell_high_voltage.to_be_bytes(),
+        parameters.cell_low_voltage.to_be_bytes(),
+        parameters.cell_under_voltage.to_be_bytes(),
+        parameters.charge_high_temperature.to_be_bytes(),
+        parameters.charge_low_temperature.to_be_bytes(),
+        parameters.charge_current.to_be_bytes(),
+        parameters.module_high_voltage.to_be_bytes(),
+        parameters.module_low_voltage.to_be_bytes(),
+        parameters.module_under_voltage.to_be_bytes(),
+        parameters.discharge_high_temperature.to_be_bytes(),
+        parameters.discharge_low_temperature.to_be_bytes(),
+        parameters.discharge_current.to_be_bytes(),
+    ]
+    .concat()
 }
 
 /// The record of 92H.
@@ -118,6 +137,13 @@ pub fn write_analog(module: &Module, flag: u8, out: &mut [u8]) -> Result<usize, 
 pub fn write_alarm(module: &Module, flag: u8, out: &mut [u8]) -> Result<usize, Number> {
     let record = alarm_record(&module.alarm);
     write_one(module.adr, &[flag, module.adr], record, out)
+}
+
+/// INFO of 47H: flag and twelve limits (PROTOCOL 9.23). No Command is written, but ADR is judged all
+/// the same (PROTOCOL 10.3).
+pub fn write_parameters(module: &Module, flag: u8, out: &mut [u8]) -> Result<usize, Number> {
+    let record = parameters_record(&module.parameters);
+    write_one(module.adr, &[flag], Some(record), out)
 }
 
 /// INFO of 92H: Command, two voltage limits, two current limits, status (PROTOCOL 9.17).

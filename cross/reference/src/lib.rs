@@ -22,12 +22,12 @@ pub mod table;
 
 pub use frame::{judge, write_frame, Frame, Header};
 pub use info::{
-    write_alarm, write_alarm_group, write_analog, write_analog_group, write_limits, write_serial,
-    write_version,
+    write_alarm, write_alarm_group, write_analog, write_analog_group, write_limits,
+    write_parameters, write_serial, write_version,
 };
 pub use listing::{listing, Lister};
 pub use meaning::{milliamps, tenths_celsius};
-pub use module::{new_module, Alarm, Analog, Limits, Module};
+pub use module::{new_module, Alarm, Analog, Limits, Module, Parameters};
 pub use receiver::{run, step, Event, Ran, Receiver};
 pub use refusal::{Number, Refusal};
 pub use reply::{read_reply, Question, Reply};

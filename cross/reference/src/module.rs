@@ -1,5 +1,5 @@
-//! The module record: ADR, on or off, the link fault mark, and what 42H, 44H, 92H, 93H and 96H carry
-//! (PROTOCOL 5.5), with what each kind's fields must be to be encodable (PROTOCOL 5.6).
+//! The module record: ADR, on or off, the link fault mark, and what 42H, 44H, 47H, 92H, 93H and 96H
+//! carry (PROTOCOL 5.5), with what each kind's fields must be to be encodable (PROTOCOL 5.6).
 
 /// What 42H carries.
 #[repr(C)]
@@ -63,6 +63,36 @@ pub struct Limits {
     pub status: u8,
 }
 
+/// What 47H carries, the system parameters: the module's own limits. Every value can be encoded.
+#[repr(C)]
+#[derive(Clone, Copy, Debug, Default, PartialEq, Eq)]
+pub struct Parameters {
+    /// The cell high voltage limit, signed mV.
+    pub cell_high_voltage: i16,
+    /// The cell low voltage limit, signed mV: the alarm's.
+    pub cell_low_voltage: i16,
+    /// The cell under voltage limit, signed mV: the protection's.
+    pub cell_under_voltage: i16,
+    /// The charge high temperature limit as sent; see [`crate::tenths_celsius`].
+    pub charge_high_temperature: i16,
+    /// The charge low temperature limit as sent.
+    pub charge_low_temperature: i16,
+    /// The charge current limit, signed, 100 mA.
+    pub charge_current: i16,
+    /// The module high voltage limit, unsigned mV.
+    pub module_high_voltage: u16,
+    /// The module low voltage limit, unsigned mV: the alarm's.
+    pub module_low_voltage: u16,
+    /// The module under voltage limit, unsigned mV: the protection's.
+    pub module_under_voltage: u16,
+    /// The discharge high temperature limit as sent.
+    pub discharge_high_temperature: i16,
+    /// The discharge low temperature limit as sent.
+    pub discharge_low_temperature: i16,
+    /// The discharge current limit, signed, 100 mA.
+    pub discharge_current: i16,
+}
+
 /// One module record.
 #[repr(C)]
 #[derive(Clone, Copy, Debug, Default, PartialEq, Eq)]
@@ -83,6 +113,8 @@ pub struct Module {
     pub serial: [u8; 16],
     /// 96H.
     pub version: [u8; 5],
+    /// 47H.
+    pub parameters: Parameters,
 }
 
 /// A record before anything was read into it: on, with one cell and one temperature as the least

@@ -1,7 +1,7 @@
 //! The reply reader: judges one stretch against the question asked and replaces the named fields
 //! (PROTOCOL 8).
 
-use crate::fields::{next_alarm, next_analog, next_bytes, next_limits, Fields};
+use crate::fields::{next_alarm, next_analog, next_bytes, next_limits, next_parameters, Fields};
 use crate::frame::{info, judge};
 use crate::info::GROUP;
 use crate::module::Module;
@@ -15,19 +15,19 @@ pub struct Question {
     pub adr: u8,
     /// The command.
     pub cid2: u8,
-    /// Its Command; with 4FH and 51H, which have none, it is ignored (PROTOCOL 5.9).
+    /// Its Command; with 47H, 4FH and 51H, which have none, it is ignored (PROTOCOL 5.9).
     pub command: u8,
 }
 
-/// What the reader returns beside the table: VER, the return code, the flag of 42H and 44H, and the
-/// 32 bytes of 51H (PROTOCOL 8.12).
+/// What the reader returns beside the table: VER, the return code, the flag of 42H, 44H and 47H, and
+/// the 32 bytes of 51H (PROTOCOL 8.12).
 #[derive(Clone, Copy, Debug, PartialEq, Eq)]
 pub struct Reply {
     /// VER.
     pub ver: u8,
     /// The return code.
     pub code: u8,
-    /// The flag of 42H and 44H with code 00H.
+    /// The flag of 42H, 44H and 47H with code 00H.
     pub flag: Option<u8>,
     /// The 32 bytes of 51H with code 00H.
     pub maker: Option<[u8; 32]>,
@@ -38,7 +38,7 @@ pub struct Reply {
 fn can_be_asked(question: Question) -> bool {
     match required_lenid(question.cid2) {
         None => false,
-        // 4FH and 51H: the Command is ignored.
+        // 47H, 4FH and 51H: the Command is ignored.
         Some(0) => true,
         Some(_) => {
             question.command == question.adr
@@ -174,6 +174,13 @@ pub fn read_reply(
             expect_command(&mut fields, question.command)?;
             let records = read_records(&mut fields, group, on, next_alarm)?;
             replace(lent, place, group, records, |m, alarm| m.alarm = alarm);
+        }
+        // Flag and twelve words; no Command, so no 21 (PROTOCOL 8.5).
+        0x47 => {
+            reply.flag = Some(fields.next_byte()?);
+            let parameters = next_parameters(&mut fields)?;
+            expect_end(&fields)?;
+            lent[place].parameters = parameters;
         }
         // 32 bytes (PROTOCOL 9.21).
         0x51 => {

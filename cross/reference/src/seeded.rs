@@ -3,7 +3,7 @@
 
 use crate::frame::{write_frame, Header, CR, SOI};
 use crate::hex;
-use crate::module::{Alarm, Analog, Limits, Module};
+use crate::module::{Alarm, Analog, Limits, Module, Parameters};
 use crate::reply::Question;
 
 /// A small seeded generator (SplitMix64): the same seed gives the same numbers everywhere.
@@ -110,6 +110,24 @@ impl Seeded {
         alarm
     }
 
+    /// A 47H part with any values.
+    pub fn parameters(&mut self) -> Parameters {
+        Parameters {
+            cell_high_voltage: self.bits() as i16,
+            cell_low_voltage: self.bits() as i16,
+            cell_under_voltage: self.bits() as i16,
+            charge_high_temperature: self.bits() as i16,
+            charge_low_temperature: self.bits() as i16,
+            charge_current: self.bits() as i16,
+            module_high_voltage: self.bits() as u16,
+            module_low_voltage: self.bits() as u16,
+            module_under_voltage: self.bits() as u16,
+            discharge_high_temperature: self.bits() as i16,
+            discharge_low_temperature: self.bits() as i16,
+            discharge_current: self.bits() as i16,
+        }
+    }
+
     /// A module record that a table may hold.
     pub fn module(&mut self, adr: u8) -> Module {
         let mut module = Module {
@@ -130,6 +148,8 @@ impl Seeded {
         for byte in module.serial.iter_mut().chain(&mut module.version) {
             *byte = self.byte();
         }
+        // Last, so that a kept seed's other values stay.
+        module.parameters = self.parameters();
         module
     }
 
@@ -187,8 +207,8 @@ impl Seeded {
 
     /// A question to a table that may be right.
     pub fn question(&mut self, table: &[Module]) -> Question {
-        const COMMANDS: [u8; 12] = [
-            0x42, 0x44, 0x4F, 0x51, 0x92, 0x93, 0x95, 0x96, 0x42, 0x44, 0x47, 0x94,
+        const COMMANDS: [u8; 13] = [
+            0x42, 0x44, 0x47, 0x4F, 0x51, 0x92, 0x93, 0x95, 0x96, 0x42, 0x44, 0x43, 0x94,
         ];
         let adr = match table.len() {
             0 => 0x02,

@@ -20,11 +20,11 @@ pub enum Answer {
     Refused(Number),
 }
 
-/// LENID of a question, 0 for 4FH and 51H, otherwise 2 (PROTOCOL 6.1); none for a command that is
-/// not served.
+/// LENID of a question, 0 for 47H, 4FH and 51H, otherwise 2 (PROTOCOL 6.1); none for a command that
+/// is not served.
 pub fn required_lenid(cid2: u8) -> Option<usize> {
     match cid2 {
-        0x4F | 0x51 => Some(0),
+        0x47 | 0x4F | 0x51 => Some(0),
         0x42 | 0x44 | 0x92 | 0x93 | 0x95 | 0x96 => Some(2),
         _ => None,
     }
@@ -53,7 +53,7 @@ fn code(lent: &[Module], place: usize, station: &Station, stretch: &[u8]) -> u8 
     if cid1 != 0x46 {
         return 0x05;
     }
-    // 5. CID2 not served, 47H and 94H included: 04H
+    // 5. CID2 not served, 94H included: 04H
     let Some(lenid) = required_lenid(cid2) else {
         return 0x04;
     };
@@ -65,7 +65,7 @@ fn code(lent: &[Module], place: usize, station: &Station, stretch: &[u8]) -> u8 
     if heard.lenid != lenid {
         return 0x05;
     }
-    // 4FH and 51H have no Command; 8 to 10 are for the commands with Command only.
+    // 47H, 4FH and 51H have no Command; 8 to 10 are for the commands with Command only.
     let Some(&command) = frame::info(stretch, heard).first() else {
         return 0x00;
     };
@@ -107,6 +107,7 @@ fn data(
         0x42 => info::write_analog(module, 0x00, &mut out)?,
         0x44 if group => info::write_alarm_group(lent, 0x00, &mut out)?,
         0x44 => info::write_alarm(module, 0x00, &mut out)?,
+        0x47 => info::write_parameters(module, 0x00, &mut out)?,
         0x51 => return Ok(station.maker.to_vec()),
         0x92 => info::write_limits(module, &mut out)?,
         0x93 => info::write_serial(module, &mut out)?,

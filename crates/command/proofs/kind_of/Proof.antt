@@ -38,7 +38,11 @@ returns-8 c = rw (c .match .keys8)
 
 returns-9 : tie.Need-returns-9
 unfolding kindOf
-returns-9 c = simp (ne-eqb (c .before .args .cid2) 66 (c .match .rest .0 .0 .0 .0 .0 .0 .0 .1), ne-eqb (c .before .args .cid2) 68 (c .match .rest .0 .0 .0 .0 .0 .0 .1), ne-eqb (c .before .args .cid2) 79 (c .match .rest .0 .0 .0 .0 .0 .1), ne-eqb (c .before .args .cid2) 81 (c .match .rest .0 .0 .0 .0 .1), ne-eqb (c .before .args .cid2) 146 (c .match .rest .0 .0 .0 .1), ne-eqb (c .before .args .cid2) 147 (c .match .rest .0 .0 .1), ne-eqb (c .before .args .cid2) 149 (c .match .rest .0 .1), ne-eqb (c .before .args .cid2) 150 (c .match .rest .1))
+returns-9 c = rw (c .match .keys9)
+
+returns-10 : tie.Need-returns-10
+unfolding kindOf
+returns-10 c = simp (ne-eqb (c .before .args .cid2) 66 (c .match .rest .0 .0 .0 .0 .0 .0 .0 .0 .1), ne-eqb (c .before .args .cid2) 68 (c .match .rest .0 .0 .0 .0 .0 .0 .0 .1), ne-eqb (c .before .args .cid2) 71 (c .match .rest .0 .0 .0 .0 .0 .0 .1), ne-eqb (c .before .args .cid2) 79 (c .match .rest .0 .0 .0 .0 .0 .1), ne-eqb (c .before .args .cid2) 81 (c .match .rest .0 .0 .0 .0 .1), ne-eqb (c .before .args .cid2) 146 (c .match .rest .0 .0 .0 .1), ne-eqb (c .before .args .cid2) 147 (c .match .rest .0 .0 .1), ne-eqb (c .before .args .cid2) 149 (c .match .rest .0 .1), ne-eqb (c .before .args .cid2) 150 (c .match .rest .1))
 
 pub kind-of-spec : {M : Type 1} → statement M
 kind-of-spec =
@@ -52,4 +56,5 @@ kind-of-spec =
     returns-6
     returns-7
     returns-8
-    returns-9)
+    returns-9
+    returns-10)

@@ -2,15 +2,19 @@
 use mathlib.Core.Path.{_≡_}
 use mathlib.Core.List.{List}
 use Prim.Native.Nat.{ℕ}
-use Rattle.record.specs.Infos.{limitsInfo, serialInfo, versionInfo, makerInfo, emptyInfo}
-use Rattle.record.specs.Nothing.{noLimits, noSerial, noVersion, noMaker}
-use Rattle.parts.specs.Took.{paper, taken, unflagged, bare}
+use Rattle.record.specs.Infos.{parametersInfo, limitsInfo, serialInfo, versionInfo, makerInfo, emptyInfo}
+use Rattle.record.specs.Nothing.{noParameters, noLimits, noSerial, noVersion, noMaker}
+use Rattle.parts.specs.Took.{paper, taken, flagAlone, unflagged, bare}
 use Rattle.parts.specs.declared.front.Taken.{Taken}
 use Rattle.parts.proofs.front.Ones.{taken-one}
+use Rattle.fixed.specs.declared.info.ParametersTaken.{ParametersTaken}
 use Rattle.fixed.specs.declared.info.LimitsTaken.{LimitsTaken}
 use Rattle.fixed.specs.declared.info.SerialTaken.{SerialTaken}
 use Rattle.fixed.specs.declared.info.VersionTaken.{VersionTaken}
 use Rattle.fixed.specs.declared.info.MakerTaken.{MakerTaken}
+
+pub take-parameters-one : (s : List ℕ) (x y : ParametersTaken) → paper (x .taken) (x .parameters) ≡ taken noParameters flagAlone (parametersInfo .get s) → paper (y .taken) (y .parameters) ≡ taken noParameters flagAlone (parametersInfo .get s) → x ≡ y
+take-parameters-one s x y p q = let e = taken-one (taken noParameters flagAlone (parametersInfo .get s)) (x .taken) (y .taken) (x .parameters) (y .parameters) p q in λ i. record { taken = e .0 i; parameters = e .1 i }
 
 module _ (s : List ℕ) (adr : ℕ) where
   pub take-limits-one : (x y : LimitsTaken) → paper (x .taken) (x .limits) ≡ taken noLimits unflagged (limitsInfo adr .get s) → paper (y .taken) (y .limits) ≡ taken noLimits unflagged (limitsInfo adr .get s) → x ≡ y

@@ -26,6 +26,10 @@ module _ (adr : ℕ) where
   pub not-address : (b : Bool) → isAddress adr ≡ false → (isAddress adr && b) ≡ false
   not-address b e = rw e
 
+  -- after a flag alone
+  pub alone-led : {A : Type 0} (c : Codec A) (a : A) → isAddress adr ≡ true → (flag : ℕ) → flag < 256 → T (c .ok a) → (isAddress adr && lead byte (λ x. ended c) .ok (flag, a)) ≡ true
+  alone-led c a e flag f k = rw (e, lt-ltb flag 256 f, is-true (c .ok a) k)
+
   module _ {A : Type 0} (c : Codec A) (a : A) (e : isAddress adr ≡ true) (h : adr < 256) where
     -- after Command
     pub led : T (c .ok a) → (isAddress adr && lead (command adr) (λ x. ended c) .ok (adr, a)) ≡ true

@@ -37,41 +37,47 @@ read-alarm-group-requires c κs = search needs
 enum-told-5 : tie.Need-enum-told-5
 enum-told-5 c = search needs
 
-read-nothing-requires : tie.Need-read-nothing-requires
-read-nothing-requires c κs = search needs
+read-parameters-requires : tie.Need-read-parameters-requires
+read-parameters-requires c κs = search needs
 
 enum-told-6 : tie.Need-enum-told-6
 enum-told-6 c = search needs
 
-read-maker-requires : tie.Need-read-maker-requires
-read-maker-requires c κs = search needs
+read-nothing-requires : tie.Need-read-nothing-requires
+read-nothing-requires c κs = search needs
 
 enum-told-7 : tie.Need-enum-told-7
 enum-told-7 c = search needs
 
-read-limits-requires : tie.Need-read-limits-requires
-read-limits-requires c κs = search needs
+read-maker-requires : tie.Need-read-maker-requires
+read-maker-requires c κs = search needs
 
 enum-told-8 : tie.Need-enum-told-8
 enum-told-8 c = search needs
 
-read-serial-requires : tie.Need-read-serial-requires
-read-serial-requires c κs = search needs
+read-limits-requires : tie.Need-read-limits-requires
+read-limits-requires c κs = search needs
 
 enum-told-9 : tie.Need-enum-told-9
 enum-told-9 c = search needs
 
-read-nothing-requires-2 : tie.Need-read-nothing-requires-2
-read-nothing-requires-2 c κs = search needs
+read-serial-requires : tie.Need-read-serial-requires
+read-serial-requires c κs = search needs
 
 enum-told-10 : tie.Need-enum-told-10
 enum-told-10 c = search needs
 
-read-version-requires : tie.Need-read-version-requires
-read-version-requires c κs = search needs
+read-nothing-requires-2 : tie.Need-read-nothing-requires-2
+read-nothing-requires-2 c κs = search needs
 
 enum-told-11 : tie.Need-enum-told-11
 enum-told-11 c = search needs
+
+read-version-requires : tie.Need-read-version-requires
+read-version-requires c κs = search needs
+
+enum-told-12 : tie.Need-enum-told-12
+enum-told-12 c = search needs
 
 not-read-requires : tie.Need-not-read-requires
 not-read-requires c κs = search needs
@@ -101,52 +107,58 @@ returns-4 c =
     subst (λ (k : Kind). Reads (given (start .args .ver) (members table) (took k (members table) (start .args .adr) (unhexes (start .args .info .now)))) table (c .read-alarm-group .result)) (sym (c .before .enum-told4 .given .1)) (c .read-alarm-group .ensures)
 
 returns-5 : tie.Need-returns-5
-unfolding took
 returns-5 c =
     let start = c .before .before .before .before in
     let table = start .args .table in
-    subst (λ (k : Kind). Reads (given (start .args .ver) (members table) (took k (members table) (start .args .adr) (unhexes (start .args .info .now)))) table (c .read-nothing .result)) (sym (c .before .enum-told5 .given .1)) (c .read-nothing .ensures)
+    subst (λ (k : Kind). Reads (given (start .args .ver) (members table) (took k (members table) (start .args .adr) (unhexes (start .args .info .now)))) table (c .read-parameters .result)) (sym (c .before .enum-told5 .given .1)) (c .read-parameters .ensures)
 
 returns-6 : tie.Need-returns-6
+unfolding took
 returns-6 c =
     let start = c .before .before .before .before in
     let table = start .args .table in
-    subst (λ (k : Kind). Reads (given (start .args .ver) (members table) (took k (members table) (start .args .adr) (unhexes (start .args .info .now)))) table (c .read-maker .result)) (sym (c .before .enum-told6 .given .1)) (c .read-maker .ensures)
+    subst (λ (k : Kind). Reads (given (start .args .ver) (members table) (took k (members table) (start .args .adr) (unhexes (start .args .info .now)))) table (c .read-nothing .result)) (sym (c .before .enum-told6 .given .1)) (c .read-nothing .ensures)
 
 returns-7 : tie.Need-returns-7
 returns-7 c =
     let start = c .before .before .before .before in
     let table = start .args .table in
-    subst (λ (k : Kind). Reads (given (start .args .ver) (members table) (took k (members table) (start .args .adr) (unhexes (start .args .info .now)))) table (c .read-limits .result)) (sym (c .before .enum-told7 .given .1)) (c .read-limits .ensures)
+    subst (λ (k : Kind). Reads (given (start .args .ver) (members table) (took k (members table) (start .args .adr) (unhexes (start .args .info .now)))) table (c .read-maker .result)) (sym (c .before .enum-told7 .given .1)) (c .read-maker .ensures)
 
 returns-8 : tie.Need-returns-8
 returns-8 c =
     let start = c .before .before .before .before in
     let table = start .args .table in
-    subst (λ (k : Kind). Reads (given (start .args .ver) (members table) (took k (members table) (start .args .adr) (unhexes (start .args .info .now)))) table (c .read-serial .result)) (sym (c .before .enum-told8 .given .1)) (c .read-serial .ensures)
+    subst (λ (k : Kind). Reads (given (start .args .ver) (members table) (took k (members table) (start .args .adr) (unhexes (start .args .info .now)))) table (c .read-limits .result)) (sym (c .before .enum-told8 .given .1)) (c .read-limits .ensures)
 
 returns-9 : tie.Need-returns-9
-unfolding took
 returns-9 c =
     let start = c .before .before .before .before in
     let table = start .args .table in
-    subst (λ (k : Kind). Reads (given (start .args .ver) (members table) (took k (members table) (start .args .adr) (unhexes (start .args .info .now)))) table (c .read-nothing2 .result)) (sym (c .before .enum-told9 .given .1)) (c .read-nothing2 .ensures)
+    subst (λ (k : Kind). Reads (given (start .args .ver) (members table) (took k (members table) (start .args .adr) (unhexes (start .args .info .now)))) table (c .read-serial .result)) (sym (c .before .enum-told9 .given .1)) (c .read-serial .ensures)
 
 returns-10 : tie.Need-returns-10
+unfolding took
 returns-10 c =
     let start = c .before .before .before .before in
     let table = start .args .table in
-    subst (λ (k : Kind). Reads (given (start .args .ver) (members table) (took k (members table) (start .args .adr) (unhexes (start .args .info .now)))) table (c .read-version .result)) (sym (c .before .enum-told10 .given .1)) (c .read-version .ensures)
+    subst (λ (k : Kind). Reads (given (start .args .ver) (members table) (took k (members table) (start .args .adr) (unhexes (start .args .info .now)))) table (c .read-nothing2 .result)) (sym (c .before .enum-told10 .given .1)) (c .read-nothing2 .ensures)
 
 returns-11 : tie.Need-returns-11
-unfolding took
 returns-11 c =
+    let start = c .before .before .before .before in
+    let table = start .args .table in
+    subst (λ (k : Kind). Reads (given (start .args .ver) (members table) (took k (members table) (start .args .adr) (unhexes (start .args .info .now)))) table (c .read-version .result)) (sym (c .before .enum-told11 .given .1)) (c .read-version .ensures)
+
+returns-12 : tie.Need-returns-12
+unfolding took
+returns-12 c =
     let start = c .before .before .before .before in
     let ver = start .args .ver in
     let table = start .args .table in
     let adr = start .args .adr in
     let info = start .args .info .now in
-    subst (λ (k : Kind). Reads (given ver (members table) (took k (members table) adr (unhexes info))) table (c .not-read .result)) (sym (c .before .enum-told11 .given .1)) (subst (Reads (given ver (members table) (took Kind.Unserved (members table) adr (unhexes info))) table) (sym (c .not-read .ensures)) (not-read table _ _ refl))
+    subst (λ (k : Kind). Reads (given ver (members table) (took k (members table) adr (unhexes info))) table (c .not-read .result)) (sym (c .before .enum-told12 .given .1)) (subst (Reads (given ver (members table) (took Kind.Unserved (members table) adr (unhexes info))) table) (sym (c .not-read .ensures)) (not-read table _ _ refl))
 
 pub read-data-spec : {M : Type 1} → statement M
 read-data-spec =
@@ -161,18 +173,20 @@ read-data-spec =
     enum-told-4
     read-alarm-group-requires
     enum-told-5
-    read-nothing-requires
+    read-parameters-requires
     enum-told-6
-    read-maker-requires
+    read-nothing-requires
     enum-told-7
-    read-limits-requires
+    read-maker-requires
     enum-told-8
-    read-serial-requires
+    read-limits-requires
     enum-told-9
-    read-nothing-requires-2
+    read-serial-requires
     enum-told-10
-    read-version-requires
+    read-nothing-requires-2
     enum-told-11
+    read-version-requires
+    enum-told-12
     not-read-requires
     returns
     returns-2
@@ -184,4 +198,5 @@ read-data-spec =
     returns-8
     returns-9
     returns-10
-    returns-11)
+    returns-11
+    returns-12)

@@ -5,7 +5,7 @@ use mir.Syntax.{w8}
 use mir.Val.{Fits}
 use borrow.Author.Needs.{needs}
 use Rattle.standin.proofs.Replies.{put-filled}
-use Rattle.standin.proofs.Filled.{filled, analog-filled, alarm-filled, limits-filled, serial-filled, version-filled, analogs-filled, alarms-filled}
+use Rattle.standin.proofs.Filled.{filled, analog-filled, alarm-filled, parameters-filled, limits-filled, serial-filled, version-filled, analogs-filled, alarms-filled}
 use Rattle.standin.proofs.Maker.{maker-length}
 use Rattle.standin.specs.Answer.{infoBy}
 use Rattle.command.specs.declared.Kind.{Kind}
@@ -47,8 +47,14 @@ write-alarm-group-requires c κs = search needs
 enum-told-5 : tie.Need-enum-told-5
 enum-told-5 c = search needs
 
+write-parameters-requires : tie.Need-write-parameters-requires
+write-parameters-requires c κs = search needs
+
 enum-told-6 : tie.Need-enum-told-6
 enum-told-6 c = search needs
+
+enum-told-7 : tie.Need-enum-told-7
+enum-told-7 c = search needs
 
 slice-aggregate-put-all : tie.Need-slice-aggregate-put-all
 slice-aggregate-put-all c = search needs
@@ -58,29 +64,29 @@ put-all-requires c κs =
     let start = c .before .before .before .before .before .before .before in
     record { fits = omega (arith, start .pre .2, maker-length (start .args .station) _ (start .good .1 .0)) }
 
-enum-told-7 : tie.Need-enum-told-7
-enum-told-7 c = search needs
+enum-told-8 : tie.Need-enum-told-8
+enum-told-8 c = search needs
 
 write-limits-requires : tie.Need-write-limits-requires
 write-limits-requires c κs = search needs
 
-enum-told-8 : tie.Need-enum-told-8
-enum-told-8 c = search needs
+enum-told-9 : tie.Need-enum-told-9
+enum-told-9 c = search needs
 
 write-serial-requires : tie.Need-write-serial-requires
 write-serial-requires c κs = search needs
 
-enum-told-9 : tie.Need-enum-told-9
-enum-told-9 c = search needs
-
 enum-told-10 : tie.Need-enum-told-10
 enum-told-10 c = search needs
+
+enum-told-11 : tie.Need-enum-told-11
+enum-told-11 c = search needs
 
 write-version-requires : tie.Need-write-version-requires
 write-version-requires c κs = search needs
 
-enum-told-11 : tie.Need-enum-told-11
-enum-told-11 c = search needs
+enum-told-12 : tie.Need-enum-told-12
+enum-told-12 c = search needs
 
 same-length : tie.Need-same-length
 same-length c = search needs
@@ -136,30 +142,11 @@ returns-4 c =
     let small : Fits w8 adr = search needs in
     subst (λ (k : Kind). Writes (filled (infoBy k station (members table) adr) info) (c .before .before .write-alarm-group .result) (c .before .before .write-alarm-group .last .0)) (sym (c .before .before .before .before .enum-told4 .given .1)) (alarms-filled station (members table) adr (keeps-parts table (start .pre .0) .1) (start .pre .1) (small .fits) info (start .pre .2) (keeps table) (start .pre .0) (c .before .before .write-alarm-group .result) (c .before .before .write-alarm-group .last .0) (c .before .before .write-alarm-group .ensures))
 
-returns-5 : tie.Need-returns-5
-unfolding infoBy
-returns-5 c =
-    let start = c .before .before .before .before in
-    let info = start .args .info .now in
-    subst (λ (k : Kind). Writes (filled (infoBy k (start .args .station) (members (start .args .table)) (start .args .adr)) info) (Written.Wrote 0) info) (sym (c .enum-told5 .given .1)) refl
-
 same-length-5 : tie.Need-same-length-5
 same-length-5 c = search needs
 
-returns-6 : tie.Need-returns-6
-unfolding infoBy
-returns-6 c =
-    let start = c .before .before .before .before .before .before .before .before .before .before in
-    let station = start .args .station in
-    let info = start .args .info .now in
-    let enum-told6 = c .before .before .before .before .before .before .enum-told6 in
-    subst (λ (k : Kind). Writes (filled (infoBy k station (members (start .args .table)) (start .args .adr)) info) (Written.Wrote (c .before .before .put-all .result)) (c .before .before .put-all .last .0)) (sym (enum-told6 .given .1)) (put-filled info (station .maker) (c .before .before .put-all .last .0) (c .before .before .put-all .result) (c .before .before .put-all .ensures))
-
-same-length-6 : tie.Need-same-length-6
-same-length-6 c = search needs
-
-returns-7 : tie.Need-returns-7
-returns-7 c =
+returns-5 : tie.Need-returns-5
+returns-5 c =
     let start = c .before .before .before .before .before .before .before .before in
     let adr = start .args .adr in
     let station = start .args .station in
@@ -167,7 +154,26 @@ returns-7 c =
     let info = start .args .info .now in
     let member-at = c .before .before .before .before .before .before .member-at in
     let small : Fits w8 adr = search needs in
-    subst (λ (k : Kind). Writes (filled (infoBy k station (members table) adr) info) (c .before .before .write-limits .result) (c .before .before .write-limits .last .0)) (sym (c .before .before .before .before .enum-told7 .given .1)) (limits-filled station (members table) adr (keeps-parts table (start .pre .0) .1) (start .pre .1) (small .fits) info (start .pre .2) (member-at .result) (member-at .ensures) (c .before .before .write-limits .result) (c .before .before .write-limits .last .0) (c .before .before .write-limits .ensures))
+    subst (λ (k : Kind). Writes (filled (infoBy k station (members table) adr) info) (c .before .before .write-parameters .result) (c .before .before .write-parameters .last .0)) (sym (c .before .before .before .before .enum-told5 .given .1)) (parameters-filled station (members table) adr (keeps-parts table (start .pre .0) .1) (start .pre .1) (small .fits) info (start .pre .2) (member-at .result) (member-at .ensures) (c .before .before .write-parameters .result) (c .before .before .write-parameters .last .0) (c .before .before .write-parameters .ensures))
+
+returns-6 : tie.Need-returns-6
+unfolding infoBy
+returns-6 c =
+    let start = c .before .before .before .before in
+    let info = start .args .info .now in
+    subst (λ (k : Kind). Writes (filled (infoBy k (start .args .station) (members (start .args .table)) (start .args .adr)) info) (Written.Wrote 0) info) (sym (c .enum-told6 .given .1)) refl
+
+same-length-6 : tie.Need-same-length-6
+same-length-6 c = search needs
+
+returns-7 : tie.Need-returns-7
+unfolding infoBy
+returns-7 c =
+    let start = c .before .before .before .before .before .before .before .before .before .before in
+    let station = start .args .station in
+    let info = start .args .info .now in
+    let enum-told7 = c .before .before .before .before .before .before .enum-told7 in
+    subst (λ (k : Kind). Writes (filled (infoBy k station (members (start .args .table)) (start .args .adr)) info) (Written.Wrote (c .before .before .put-all .result)) (c .before .before .put-all .last .0)) (sym (enum-told7 .given .1)) (put-filled info (station .maker) (c .before .before .put-all .last .0) (c .before .before .put-all .result) (c .before .before .put-all .ensures))
 
 same-length-7 : tie.Need-same-length-7
 same-length-7 c = search needs
@@ -181,20 +187,13 @@ returns-8 c =
     let info = start .args .info .now in
     let member-at = c .before .before .before .before .before .before .member-at in
     let small : Fits w8 adr = search needs in
-    subst (λ (k : Kind). Writes (filled (infoBy k station (members table) adr) info) (c .before .before .write-serial .result) (c .before .before .write-serial .last .0)) (sym (c .before .before .before .before .enum-told8 .given .1)) (serial-filled station (members table) adr (keeps-parts table (start .pre .0) .1) (start .pre .1) (small .fits) info (start .pre .2) (member-at .result) (member-at .ensures) (c .before .before .write-serial .result) (c .before .before .write-serial .last .0) (c .before .before .write-serial .ensures))
-
-returns-9 : tie.Need-returns-9
-unfolding infoBy
-returns-9 c =
-    let start = c .before .before .before .before in
-    let info = start .args .info .now in
-    subst (λ (k : Kind). Writes (filled (infoBy k (start .args .station) (members (start .args .table)) (start .args .adr)) info) (Written.Wrote 0) info) (sym (c .enum-told9 .given .1)) refl
+    subst (λ (k : Kind). Writes (filled (infoBy k station (members table) adr) info) (c .before .before .write-limits .result) (c .before .before .write-limits .last .0)) (sym (c .before .before .before .before .enum-told8 .given .1)) (limits-filled station (members table) adr (keeps-parts table (start .pre .0) .1) (start .pre .1) (small .fits) info (start .pre .2) (member-at .result) (member-at .ensures) (c .before .before .write-limits .result) (c .before .before .write-limits .last .0) (c .before .before .write-limits .ensures))
 
 same-length-8 : tie.Need-same-length-8
 same-length-8 c = search needs
 
-returns-10 : tie.Need-returns-10
-returns-10 c =
+returns-9 : tie.Need-returns-9
+returns-9 c =
     let start = c .before .before .before .before .before .before .before .before in
     let adr = start .args .adr in
     let station = start .args .station in
@@ -202,14 +201,35 @@ returns-10 c =
     let info = start .args .info .now in
     let member-at = c .before .before .before .before .before .before .member-at in
     let small : Fits w8 adr = search needs in
-    subst (λ (k : Kind). Writes (filled (infoBy k station (members table) adr) info) (c .before .before .write-version .result) (c .before .before .write-version .last .0)) (sym (c .before .before .before .before .enum-told10 .given .1)) (version-filled station (members table) adr (keeps-parts table (start .pre .0) .1) (start .pre .1) (small .fits) info (start .pre .2) (member-at .result) (member-at .ensures) (c .before .before .write-version .result) (c .before .before .write-version .last .0) (c .before .before .write-version .ensures))
+    subst (λ (k : Kind). Writes (filled (infoBy k station (members table) adr) info) (c .before .before .write-serial .result) (c .before .before .write-serial .last .0)) (sym (c .before .before .before .before .enum-told9 .given .1)) (serial-filled station (members table) adr (keeps-parts table (start .pre .0) .1) (start .pre .1) (small .fits) info (start .pre .2) (member-at .result) (member-at .ensures) (c .before .before .write-serial .result) (c .before .before .write-serial .last .0) (c .before .before .write-serial .ensures))
 
-returns-11 : tie.Need-returns-11
+returns-10 : tie.Need-returns-10
 unfolding infoBy
-returns-11 c =
+returns-10 c =
     let start = c .before .before .before .before in
     let info = start .args .info .now in
-    subst (λ (k : Kind). Writes (filled (infoBy k (start .args .station) (members (start .args .table)) (start .args .adr)) info) (Written.Wrote 0) info) (sym (c .enum-told11 .given .1)) refl
+    subst (λ (k : Kind). Writes (filled (infoBy k (start .args .station) (members (start .args .table)) (start .args .adr)) info) (Written.Wrote 0) info) (sym (c .enum-told10 .given .1)) refl
+
+same-length-9 : tie.Need-same-length-9
+same-length-9 c = search needs
+
+returns-11 : tie.Need-returns-11
+returns-11 c =
+    let start = c .before .before .before .before .before .before .before .before in
+    let adr = start .args .adr in
+    let station = start .args .station in
+    let table = start .args .table in
+    let info = start .args .info .now in
+    let member-at = c .before .before .before .before .before .before .member-at in
+    let small : Fits w8 adr = search needs in
+    subst (λ (k : Kind). Writes (filled (infoBy k station (members table) adr) info) (c .before .before .write-version .result) (c .before .before .write-version .last .0)) (sym (c .before .before .before .before .enum-told11 .given .1)) (version-filled station (members table) adr (keeps-parts table (start .pre .0) .1) (start .pre .1) (small .fits) info (start .pre .2) (member-at .result) (member-at .ensures) (c .before .before .write-version .result) (c .before .before .write-version .last .0) (c .before .before .write-version .ensures))
+
+returns-12 : tie.Need-returns-12
+unfolding infoBy
+returns-12 c =
+    let start = c .before .before .before .before in
+    let info = start .args .info .now in
+    subst (λ (k : Kind). Writes (filled (infoBy k (start .args .station) (members (start .args .table)) (start .args .adr)) info) (Written.Wrote 0) info) (sym (c .enum-told12 .given .1)) refl
 
 pub fill-spec : {M : Type 1} → statement M
 fill-spec =
@@ -225,17 +245,19 @@ fill-spec =
     enum-told-4
     write-alarm-group-requires
     enum-told-5
+    write-parameters-requires
     enum-told-6
+    enum-told-7
     slice-aggregate-put-all
     put-all-requires
-    enum-told-7
-    write-limits-requires
     enum-told-8
-    write-serial-requires
+    write-limits-requires
     enum-told-9
+    write-serial-requires
     enum-told-10
-    write-version-requires
     enum-told-11
+    write-version-requires
+    enum-told-12
     same-length
     returns
     same-length-2
@@ -244,14 +266,16 @@ fill-spec =
     returns-3
     same-length-4
     returns-4
-    returns-5
     same-length-5
+    returns-5
     returns-6
     same-length-6
     returns-7
     same-length-7
     returns-8
-    returns-9
     same-length-8
+    returns-9
     returns-10
-    returns-11)
+    same-length-9
+    returns-11
+    returns-12)

@@ -12,8 +12,11 @@ zero-alarm-requires c κs = search needs
 zero-limits-requires : tie.Need-zero-limits-requires
 zero-limits-requires c κs = search needs
 
+zero-parameters-requires : tie.Need-zero-parameters-requires
+zero-parameters-requires c κs = search needs
+
 returns : tie.Need-returns
-returns c = rw (c .before .before .zero-analog .ensures, c .before .zero-alarm .ensures, c .zero-limits .ensures)
+returns c = rw (c .before .before .before .zero-analog .ensures, c .before .before .zero-alarm .ensures, c .before .zero-limits .ensures, c .zero-parameters .ensures)
 
 pub new-module-spec : {M : Type 1} → statement M
-new-module-spec = tie.close (tie.spec zero-analog-requires zero-alarm-requires zero-limits-requires returns)
+new-module-spec = tie.close (tie.spec zero-analog-requires zero-alarm-requires zero-limits-requires zero-parameters-requires returns)

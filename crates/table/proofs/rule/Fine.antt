@@ -14,6 +14,7 @@ use Rattle.record.specs.Address.{isAddress}
 use Rattle.record.specs.Analog.{analog}
 use Rattle.record.specs.Alarm.{alarm}
 use Rattle.record.specs.Limits.{limits}
+use Rattle.record.specs.Parameters.{parameters}
 use Rattle.record.specs.Texts.{serial, version}
 use Rattle.table.specs.declared.Table.{Table}
 use Rattle.table.specs.Table.{blank, members}
@@ -34,6 +35,7 @@ pub record Fine (m : Module) : Type 0 where
   pub limits-ok : limits .ok (m .limits) ≡ true
   pub serial-ok : serial .ok (m .serial) ≡ true
   pub version-ok : version .ok (m .version) ≡ true
+  pub parameters-ok : parameters .ok (m .parameters) ≡ true
 
 pub fine-parts : (m : Module) → fine m ≡ true → Fine m
 unfolding fine encodable
@@ -41,10 +43,11 @@ fine-parts m e =
     let a = both-true (isAddress (m .adr) && (leb (m .on) 1 && leb (m .«link_fault») 1)) (encodable m) e in
     let b = both-true (isAddress (m .adr)) (leb (m .on) 1 && leb (m .«link_fault») 1) (a .0) in
     let c = both-true (leb (m .on) 1) (leb (m .«link_fault») 1) (b .1) in
-    let d = both-true (analog .ok (m .analog) && alarm .ok (m .alarm)) (limits .ok (m .limits) && (serial .ok (m .serial) && version .ok (m .version))) (a .1) in
+    let d = both-true (analog .ok (m .analog) && alarm .ok (m .alarm)) (limits .ok (m .limits) && (serial .ok (m .serial) && (version .ok (m .version) && parameters .ok (m .parameters)))) (a .1) in
     let f = both-true (analog .ok (m .analog)) (alarm .ok (m .alarm)) (d .0) in
-    let g = both-true (limits .ok (m .limits)) (serial .ok (m .serial) && version .ok (m .version)) (d .1) in
-    let h = both-true (serial .ok (m .serial)) (version .ok (m .version)) (g .1) in
+    let g = both-true (limits .ok (m .limits)) (serial .ok (m .serial) && (version .ok (m .version) && parameters .ok (m .parameters))) (d .1) in
+    let h = both-true (serial .ok (m .serial)) (version .ok (m .version) && parameters .ok (m .parameters)) (g .1) in
+    let k = both-true (version .ok (m .version)) (parameters .ok (m .parameters)) (h .1) in
     record {
       address = b .0;
       on = leb-true (m .on) 1 (c .0);
@@ -53,7 +56,8 @@ fine-parts m e =
       alarm-ok = f .1;
       limits-ok = g .0;
       serial-ok = h .0;
-      version-ok = h .1;
+      version-ok = k .0;
+      parameters-ok = k .1;
     }
 
 -- the first record of a rising list, and the others

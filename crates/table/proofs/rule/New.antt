@@ -11,13 +11,19 @@ use Rattle.record.specs.Analog.{measured, analog}
 use Rattle.record.specs.Capacities.{capacities}
 use Rattle.record.specs.Alarm.{isAlarmCode, codes, singles, alarm}
 use Rattle.record.specs.Limits.{limits}
+use Rattle.record.specs.Parameters.{parameters}
 use Rattle.record.specs.Texts.{serial, version}
+use Rattle.record.specs.Nothing.{noParameters}
 use Rattle.table.specs.Table.{newModule}
 use Rattle.table.specs.Rule.{encodable, fine, rising, rule}
 
 pub new-fine : (adr : ℕ) → isAddress adr ≡ true → fine (newModule adr) ≡ true
-unfolding fine encodable analog measured capacities alarm codes singles isAlarmCode limits serial version
+unfolding fine encodable analog measured capacities alarm codes singles isAlarmCode limits serial version parameters
 new-fine adr e = rw e
+
+-- its limits are 0 until 47H is read
+pub new-parameters : (adr : ℕ) → newModule adr .parameters ≡ noParameters
+new-parameters adr = refl
 
 -- an address is not 0
 not-zero : (adr : ℕ) → isAddress adr ≡ true → ltb 0 adr ≡ true

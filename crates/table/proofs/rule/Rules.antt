@@ -12,6 +12,7 @@ use Rattle.record.specs.Address.{isAddress}
 use Rattle.record.specs.Analog.{analog}
 use Rattle.record.specs.Alarm.{alarm}
 use Rattle.record.specs.Limits.{limits}
+use Rattle.record.specs.Parameters.{parameters}
 use Rattle.record.specs.Texts.{serial, version}
 use Rattle.table.specs.declared.Table.{Table}
 use Rattle.table.specs.Table.{members}
@@ -22,7 +23,7 @@ pub is-true : (b : Bool) → T b → b ≡ true
 is-true true t = refl
 is-true false t = absurd t
 
--- ---- one record: the types of limits, serial and version make these encodable
+-- ---- one record: the types of limits, serial, version and parameters make these encodable
 
 module _ (m : Module) where
   pub not-placed : (isAddress (m .adr) && (leb (m .on) 1 && leb (m .«link_fault») 1)) ≡ false → false ≡ fine m
@@ -30,11 +31,11 @@ module _ (m : Module) where
   not-placed e = rw e
 
   pub by-parts : (isAddress (m .adr) && (leb (m .on) 1 && leb (m .«link_fault») 1)) ≡ true
-      → T (limits .ok (m .limits)) → T (serial .ok (m .serial)) → T (version .ok (m .version))
+      → T (limits .ok (m .limits)) → T (serial .ok (m .serial)) → T (version .ok (m .version)) → T (parameters .ok (m .parameters))
       → {a b : Bool} → a ≡ analog .ok (m .analog) → b ≡ alarm .ok (m .alarm) → (a && b) ≡ fine m
   unfolding fine encodable
-  by-parts e l s v {a} {b} ea eb =
-      rw (e, is-true (limits .ok (m .limits)) l, is-true (serial .ok (m .serial)) s, is-true (version .ok (m .version)) v, ← ea, ← eb) (sym (and-true (a && b)))
+  by-parts e l s v p {a} {b} ea eb =
+      rw (e, is-true (limits .ok (m .limits)) l, is-true (serial .ok (m .serial)) s, is-true (version .ok (m .version)) v, is-true (parameters .ok (m .parameters)) p, ← ea, ← eb) (sym (and-true (a && b)))
 
 -- ---- the whole table
 

@@ -9,7 +9,7 @@ use linked::Question;
 use reference::seeded::Seeded;
 use reference::Module;
 
-const COMMANDS: [u8; 8] = [0x42, 0x44, 0x4F, 0x51, 0x92, 0x93, 0x95, 0x96];
+const COMMANDS: [u8; 9] = [0x42, 0x44, 0x47, 0x4F, 0x51, 0x92, 0x93, 0x95, 0x96];
 /// Bytes around each bound that a byte of INFO has.
 const BYTES: [u8; 18] = [
     0x00, 0x01, 0x02, 0x03, 0x04, 0x05, 0x08, 0x09, 0x10, 0x11, 0x7F, 0x80, 0xEF, 0xF0, 0xF1, 0xFD,
@@ -28,6 +28,7 @@ pub fn all(comparison: &mut Comparison, seeded: &mut Seeded, rounds: usize) -> D
             every_place(comparison, seeded, cid2, true)?;
         }
     }
+    every_parameter(comparison, seeded)?;
     every_count_of_records(comparison, seeded)?;
     every_capacity(comparison, seeded)?;
     long_replies(comparison, seeded)?;
@@ -196,6 +197,36 @@ fn every_place(comparison: &mut Comparison, seeded: &mut Seeded, cid2: u8, group
         read(comparison, &table, question, made::stretch(header, &longer))?;
         longer.extend([byte; 2]);
         read(comparison, &table, question, made::stretch(header, &longer))?;
+    }
+    Ok(())
+}
+
+/// 47H with every value of each byte of INFO, with INFO of every length around its own, and with every
+/// Command in the question; the members have faults or not.
+fn every_parameter(comparison: &mut Comparison, seeded: &mut Seeded) -> Done {
+    let mut table = full(seeded);
+    for module in &mut table {
+        module.link_fault = u8::from(seeded.once_in(2));
+    }
+    let adr = table[3].adr;
+    let asked = |command| Question {
+        adr,
+        cid2: 0x47,
+        command,
+    };
+    let reply = |info: &[u8]| made::stretch([0x20, adr, 0x46, 0x00], info);
+    for place in 0..25 {
+        for value in 0..=u8::MAX {
+            let mut info = seeded.bytes(25);
+            info[place] = value;
+            read(comparison, &table, asked(value), reply(&info))?;
+        }
+    }
+    for length in 0..=60 {
+        for command in [0x00, adr, 0xFF] {
+            let info = seeded.bytes(length);
+            read(comparison, &table, asked(command), reply(&info))?;
+        }
     }
     Ok(())
 }

@@ -8,7 +8,9 @@ use linked::{Module, Station, ANSWER};
 use reference::seeded::Seeded;
 
 /// The commands that are served, and two that are not.
-const COMMANDS: [u8; 10] = [0x42, 0x44, 0x4F, 0x51, 0x92, 0x93, 0x95, 0x96, 0x47, 0x94];
+const COMMANDS: [u8; 11] = [
+    0x42, 0x44, 0x47, 0x4F, 0x51, 0x92, 0x93, 0x95, 0x96, 0x43, 0x94,
+];
 /// VER of the station in the calls made here.
 const VER: u8 = 0x20;
 
@@ -16,6 +18,7 @@ const VER: u8 = 0x20;
 pub fn all(comparison: &mut Comparison, seeded: &mut Seeded, rounds: usize) -> Done {
     every_byte(comparison, seeded)?;
     every_place(comparison, seeded)?;
+    every_fault(comparison, seeded)?;
     long_stretches(comparison, seeded)?;
     seeded_questions(comparison, seeded, rounds)
 }
@@ -89,7 +92,7 @@ fn every_place(comparison: &mut Comparison, seeded: &mut Seeded) -> Done {
             let table = with_master(seeded);
             let adr = table[0].adr;
             let info = match (cid2, group) {
-                (0x4F | 0x51, false) => vec![],
+                (0x47 | 0x4F | 0x51, false) => vec![],
                 (_, false) => vec![adr],
                 (_, true) => vec![0xFF],
             };
@@ -105,6 +108,27 @@ fn every_place(comparison: &mut Comparison, seeded: &mut Seeded) -> Done {
                 let mut longer = right.clone();
                 longer.insert(place, right[place]);
                 ask(comparison, seeded, &table, longer)?;
+            }
+        }
+    }
+    Ok(())
+}
+
+/// A link fault of the module asked, of another and of all, with every command, without Command, with
+/// ADR and with FFH.
+fn every_fault(comparison: &mut Comparison, seeded: &mut Seeded) -> Done {
+    for cid2 in COMMANDS {
+        for faults in 0..8 {
+            let mut table: Vec<_> = (2..=4).map(|adr| seeded.module(adr)).collect();
+            for (place, module) in table.iter_mut().enumerate() {
+                (module.on, module.link_fault) = (1, faults >> place & 1);
+            }
+            let table = linked_table(&table);
+            for adr in 2..=4 {
+                for info in [&[][..], &[adr], &[0xFF]] {
+                    let stretch = made::stretch([VER, adr, 0x46, cid2], info);
+                    ask(comparison, seeded, &table, stretch)?;
+                }
             }
         }
     }
@@ -154,7 +178,7 @@ fn seeded_questions(comparison: &mut Comparison, seeded: &mut Seeded, rounds: us
         };
         let info = match (question.cid2, seeded.below(12)) {
             (_, 0) => seeded.bytes(3),
-            (0x4F | 0x51, _) => vec![],
+            (0x47 | 0x4F | 0x51, _) => vec![],
             _ => vec![question.command],
         };
         let mut stretch = made::stretch([ver, question.adr, 0x46, question.cid2], &info);

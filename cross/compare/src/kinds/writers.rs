@@ -7,9 +7,10 @@ use crate::records::{linked_of, linked_table, packed, plain, unpacked, PACKED};
 use linked::Module;
 use reference::seeded::Seeded;
 
-const KINDS: [Kind; 5] = [
+const KINDS: [Kind; 6] = [
     Kind::Analog,
     Kind::Alarm,
+    Kind::Parameters,
     Kind::Limits,
     Kind::Serial,
     Kind::Version,

@@ -4,7 +4,8 @@ use crate::common::*;
 use reference::module::is_address;
 use reference::{
     new_module, rule, tenths_celsius, write_alarm, write_alarm_group, write_analog,
-    write_analog_group, write_limits, write_serial, write_version, Module,
+    write_analog_group, write_limits, write_parameters, write_serial, write_version, Module,
+    Parameters,
 };
 
 /// Whether a table that holds this change keeps its rule.
@@ -58,6 +59,21 @@ fn c1_encodable_field_by_field() {
         discharge_current: i16::MAX,
         status: 0xFF,
     }));
+    assert!(keeps(|m| m.parameters = Parameters {
+        cell_high_voltage: i16::MIN,
+        cell_low_voltage: i16::MAX,
+        cell_under_voltage: -1,
+        charge_high_temperature: i16::MIN,
+        charge_low_temperature: i16::MAX,
+        charge_current: i16::MIN,
+        module_high_voltage: 0,
+        module_low_voltage: 65_535,
+        module_under_voltage: 32_768,
+        discharge_high_temperature: 0,
+        discharge_low_temperature: i16::MIN,
+        discharge_current: i16::MAX,
+    }));
+    assert!(keeps(|m| m.parameters = Parameters::default()));
     assert!(keeps(|m| m.analog.cell_count = 16));
     assert!(!keeps(|m| m.analog.cell_count = 17));
     assert!(!keeps(
@@ -199,6 +215,7 @@ fn c6_single_writer_judges_only_its_kind() {
     });
     assert_eq!(written(|out| write_analog(&module, 0, out)), Err(33));
     assert!(written(|out| write_alarm(&module, 0, out)).is_ok());
+    assert!(written(|out| write_parameters(&module, 0, out)).is_ok());
     assert!(written(|out| write_limits(&module, out)).is_ok());
     assert!(written(|out| write_serial(&module, out)).is_ok());
     assert!(written(|out| write_version(&module, out)).is_ok());
@@ -207,11 +224,19 @@ fn c6_single_writer_judges_only_its_kind() {
     assert!(written(|out| write_analog(&module, 0, out)).is_ok());
     // 32 below the record's INFO, and nothing is written.
     let module = changed(|_| ());
-    let lengths = [(0x42, 55), (0x44, 32), (0x92, 10), (0x93, 17), (0x96, 6)];
+    let lengths = [
+        (0x42, 55),
+        (0x44, 32),
+        (0x47, 25),
+        (0x92, 10),
+        (0x93, 17),
+        (0x96, 6),
+    ];
     for (kind, length) in lengths {
         let write = |out: &mut [u8]| match kind {
             0x42 => write_analog(&module, 0, out),
             0x44 => write_alarm(&module, 0, out),
+            0x47 => write_parameters(&module, 0, out),
             0x92 => write_limits(&module, out),
             0x93 => write_serial(&module, out),
             _ => write_version(&module, out),
@@ -272,6 +297,8 @@ fn c9_single_record_needs_no_table() {
         let expected = if right { None } else { Some(33) };
         assert_eq!(written(|out| write_analog(&module, 0, out)).err(), expected);
         assert_eq!(written(|out| write_alarm(&module, 0, out)).err(), expected);
+        let parameters = written(|out| write_parameters(&module, 0, out));
+        assert_eq!(parameters.err(), expected);
         assert_eq!(written(|out| write_limits(&module, out)).err(), expected);
         assert_eq!(written(|out| write_serial(&module, out)).err(), expected);
         assert_eq!(written(|out| write_version(&module, out)).err(), expected);
@@ -284,7 +311,12 @@ fn a_new_record_is_a_table_where_its_adr_is_one() {
         let new = new_module(adr);
         assert_eq!(rule(&[new]).is_ok(), is_address(adr));
         assert_eq!((new.on, new.link_fault), (1, 0));
+        assert_eq!(new.parameters, Parameters::default());
     }
+    // Nothing was read: 0 mV, and a temperature that no module has.
+    let limits = new_module(0x02).parameters;
+    assert_eq!(limits.cell_high_voltage, 0);
+    assert_eq!(tenths_celsius(limits.charge_high_temperature), -2_731);
 }
 
 #[test]
@@ -297,4 +329,29 @@ fn c10_marks_are_bytes_0_or_1() {
         table[0].link_fault = mark;
         assert_eq!(rule(&table).is_ok(), mark <= 1);
     }
+}
+
+#[test]
+fn c11_a_writer_for_47h() {
+    // The flag given, no Command, twelve words.
+    let module = changed(|_| ());
+    for flag in [0x00, 0x01, 0x11, 0xFF] {
+        let info = written(|out| write_parameters(&module, flag, out)).unwrap();
+        assert_eq!(info[0], flag);
+        let words = "0E74 0BEA 0B54 0C9F 0AAB 00FA D002 B798 ADD4 0D03 0A47 FF06";
+        assert_eq!(info[1..], h(words));
+    }
+    // 33 for an ADR outside the address rule, though it is not written; then 32.
+    for adr in [0x00, 0x01, 0x0E, 0x82, 0xFF] {
+        let outside = Module { adr, ..module };
+        assert_eq!(write_parameters(&outside, 0, &mut []), Err(33));
+        assert_eq!(write_parameters(&outside, 0, &mut [5; 25]), Err(33));
+    }
+    let mut short = [5; 24];
+    assert_eq!(write_parameters(&module, 0, &mut short), Err(32));
+    assert_eq!(short, [5; 24]);
+    assert_eq!(write_parameters(&module, 0, &mut []), Err(32));
+    // ADR is the only thing of the record that is judged.
+    let broken = changed(|m| (m.on, m.analog.cell_count, m.alarm.cell_count) = (7, 0, 17));
+    assert_eq!(write_parameters(&broken, 0, &mut [0; 25]), Ok(25));
 }

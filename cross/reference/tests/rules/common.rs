@@ -2,7 +2,7 @@
 
 use reference::{
     answer, hex, read_reply, run, write_frame, Alarm, Analog, Answer, Event, Header, Limits,
-    Module, Number, Question, Ran, Receiver, Refusal, Reply, Station,
+    Module, Number, Parameters, Question, Ran, Receiver, Refusal, Reply, Station,
 };
 
 /// A frame from SOI to CR.
@@ -77,6 +77,20 @@ pub fn module(adr: u8) -> Module {
         },
         serial: *b"HZ00000000000000",
         version: [1, 2, 3, 4, 5],
+        parameters: Parameters {
+            cell_high_voltage: 3_700,
+            cell_low_voltage: 3_050,
+            cell_under_voltage: 2_900,
+            charge_high_temperature: 2_731 + 500,
+            charge_low_temperature: 2_731,
+            charge_current: 250,
+            module_high_voltage: 53_250,
+            module_low_voltage: 47_000,
+            module_under_voltage: 44_500,
+            discharge_high_temperature: 2_731 + 600,
+            discharge_low_temperature: 2_731 - 100,
+            discharge_current: -250,
+        },
     };
     for place in 0..15 {
         module.analog.cells[place] = 3_390 + place as i16;

@@ -2,7 +2,7 @@
 
 use crate::common::*;
 use reference::Refusal::{LowerCase, NoHexDigit, Plain};
-use reference::{Alarm, Analog, Limits, Module, Reply};
+use reference::{Alarm, Analog, Limits, Module, Parameters, Reply};
 
 /// INFO of 42H for one module of the stack, flag 00H.
 fn analog_info(adr: u8) -> Vec<u8> {
@@ -17,6 +17,11 @@ fn analog_record(adr: u8) -> Vec<u8> {
 /// INFO of 44H for one module of the stack, flag 00H.
 fn alarm_info(adr: u8) -> Vec<u8> {
     written(|out| reference::write_alarm(&module(adr), 0x00, out)).unwrap()
+}
+
+/// INFO of 47H for one module of the stack, flag 00H.
+fn parameters_info(adr: u8) -> Vec<u8> {
+    written(|out| reference::write_parameters(&module(adr), 0x00, out)).unwrap()
 }
 
 /// INFO with FFH and these records.
@@ -69,8 +74,8 @@ fn d1_order() {
     let mut table = stack(&[0x02, 0x03]);
     let long = vec![b'g'; 4_111];
     // 31, 34, 23, then the stretch.
-    assert_eq!(read(&mut broken, (0x09, 0x47, 0x08), &long), Err(31));
-    assert_eq!(read(&mut table, (0x09, 0x47, 0x09), &long), Err(34));
+    assert_eq!(read(&mut broken, (0x09, 0x94, 0x08), &long), Err(31));
+    assert_eq!(read(&mut table, (0x09, 0x94, 0x09), &long), Err(34));
     assert_eq!(read(&mut table, (0x09, 0x42, 0x08), &long), Err(34));
     assert_eq!(read(&mut table, (0x09, 0x42, 0x09), &long), Err(23));
     let asked = (0x03, 0x42, 0x03);
@@ -158,7 +163,7 @@ fn d3_which_questions_can_be_asked() {
         for command in 0..=255 {
             let result = read(&mut table, (0x02, cid2, command), &nothing);
             let right = match cid2 {
-                0x4F | 0x51 => true,
+                0x47 | 0x4F | 0x51 => true,
                 0x42 | 0x44 => command == 0x02 || command == 0xFF,
                 0x92 | 0x93 | 0x95 | 0x96 => command == 0x02,
                 _ => false,
@@ -229,18 +234,18 @@ fn d6_missing_bytes() {
         assert_eq!(read(&mut table, asked, &say(0x02, 0, &[])), Ok(plain(0)));
         assert_eq!(read(&mut table, asked, &say(0x02, 0, &[0x02])), Err(17));
     }
-    assert_eq!(
-        read(&mut table, (0x02, 0x51, 0), &say(0x02, 0, &[])),
-        Err(16)
-    );
-    assert_eq!(
-        read(&mut table, (0x02, 0x51, 0), &say(0x02, 0, &[7; 31])),
-        Err(16)
-    );
-    assert_eq!(
-        read(&mut table, (0x02, 0x51, 0), &say(0x02, 0, &[7; 33])),
-        Err(17)
-    );
+    for (cid2, length) in [(0x51, 32), (0x47, 25)] {
+        let asked = (0x02, cid2, 0);
+        for shorter in 0..length {
+            let reply = say(0x02, 0, &vec![7; shorter]);
+            assert_eq!(read(&mut table, asked, &reply), Err(16), "{shorter}");
+        }
+        for longer in [length + 1, length + 2, 2_047] {
+            let reply = say(0x02, 0, &vec![7; longer]);
+            assert_eq!(read(&mut table, asked, &reply), Err(17), "{longer}");
+        }
+        assert!(read(&mut table, asked, &say(0x02, 0, &vec![7; length])).is_ok());
+    }
 }
 
 #[test]
@@ -595,6 +600,7 @@ fn d17_marks_are_never_touched() {
         let replies = [
             (0x42, analog_info(0x02)),
             (0x44, alarm_info(0x02)),
+            (0x47, parameters_info(0x02)),
             (0x92, limits),
             (0x93, serial),
             (0x96, version),
@@ -619,4 +625,109 @@ fn d17_marks_are_never_touched() {
     assert_eq!((table[0].link_fault, table[1].link_fault), (1, 0));
     assert_eq!(table[0].analog, module(0x02).analog);
     assert_eq!(table[0].limits, Limits::default());
+    assert_eq!(table[0].parameters, Parameters::default());
+}
+
+#[test]
+fn d18_module_limits_are_unsigned() {
+    // D002H is 53,250 mV as a module voltage; as a signed number it would be negative.
+    let mut table = blank(&[0x02]);
+    let info = h("00 D002 D002 D002 D002 D002 D002 D002 D002 D002 D002 D002 D002");
+    read(&mut table, (0x02, 0x47, 0x02), &say(0x02, 0x00, &info)).unwrap();
+    let signed = 0xD002_u16 as i16;
+    assert_eq!(signed, -12_286);
+    assert_eq!(
+        table[0].parameters,
+        Parameters {
+            cell_high_voltage: signed,
+            cell_low_voltage: signed,
+            cell_under_voltage: signed,
+            charge_high_temperature: signed,
+            charge_low_temperature: signed,
+            charge_current: signed,
+            module_high_voltage: 53_250,
+            module_low_voltage: 53_250,
+            module_under_voltage: 53_250,
+            discharge_high_temperature: signed,
+            discharge_low_temperature: signed,
+            discharge_current: signed,
+        }
+    );
+    let again = written(|out| reference::write_parameters(&table[0], 0x00, out));
+    assert_eq!(again, Ok(info));
+}
+
+#[test]
+fn d19_twelve_words_in_the_order_of_the_rows() {
+    // Another value in each row: the third is the cell's, the ninth the module's.
+    let mut table = blank(&[0x02, 0x03]);
+    let info = h("00 0001 0002 0003 0004 0005 0006 0007 0008 0009 000A 000B 000C");
+    read(&mut table, (0x03, 0x47, 0x03), &say(0x03, 0x00, &info)).unwrap();
+    let mut expected = blank(&[0x02, 0x03]);
+    expected[1].parameters = Parameters {
+        cell_high_voltage: 1,
+        cell_low_voltage: 2,
+        cell_under_voltage: 3,
+        charge_high_temperature: 4,
+        charge_low_temperature: 5,
+        charge_current: 6,
+        module_high_voltage: 7,
+        module_low_voltage: 8,
+        module_under_voltage: 9,
+        discharge_high_temperature: 10,
+        discharge_low_temperature: 11,
+        discharge_current: 12,
+    };
+    // The record's other fields stay, and so do the other records.
+    assert_eq!(table, expected);
+    let mut whole = stack(&[0x02, 0x03]);
+    read(&mut whole, (0x03, 0x47, 0x03), &say(0x03, 0x00, &info)).unwrap();
+    let mut only = stack(&[0x02, 0x03]);
+    only[1].parameters = expected[1].parameters;
+    assert_eq!(whole, only);
+    // 25 bytes, not one less or more: 16, then 17; an empty INFO is 16 too.
+    let asked = (0x03, 0x47, 0x03);
+    for length in 0..25 {
+        let reply = say(0x03, 0x00, &info[..length]);
+        assert_eq!(read(&mut table, asked, &reply), Err(16), "{length}");
+    }
+    let longer = [&info[..], &[0x00]].concat();
+    assert_eq!(read(&mut table, asked, &say(0x03, 0x00, &longer)), Err(17));
+}
+
+#[test]
+fn d20_no_command_with_47h() {
+    // Whatever Command is given with the question, and whatever stands behind the flag: no 34, no 21.
+    let info = parameters_info(0x03);
+    for command in 0..=255 {
+        let mut table = blank(&[0x02, 0x03]);
+        table[0].on = 0;
+        let asked = (0x03, 0x47, command);
+        assert!(read(&mut table, asked, &say(0x03, 0x00, &info)).is_ok());
+        assert_eq!(table[1].parameters, module(0x03).parameters);
+        assert_eq!(table[0].parameters, Parameters::default());
+        let other = [&[0x11, command][..], &info[2..]].concat();
+        assert_eq!(
+            read(&mut table, asked, &say(0x03, 0x00, &other)),
+            Ok(Reply {
+                flag: Some(0x11),
+                ..plain(0x00)
+            })
+        );
+        let high = table[1].parameters.cell_high_voltage.to_be_bytes()[0];
+        assert_eq!(high, command);
+    }
+    // FFH at the master is no group: the master's record alone is read.
+    let mut table = blank(&[0x02, 0x03]);
+    let reply = say(0x02, 0x00, &parameters_info(0x02));
+    assert!(read(&mut table, (0x02, 0x47, 0xFF), &reply).is_ok());
+    assert_eq!(table[0].parameters, module(0x02).parameters);
+    assert_eq!(table[1].parameters, Parameters::default());
+    // A code other than 00H changes nothing, and has no flag.
+    let before = table.clone();
+    for code in [0x01, 0x04, 0x05, 0x91] {
+        let reply = say(0x02, code, &[]);
+        assert_eq!(read(&mut table, (0x02, 0x47, 0), &reply), Ok(plain(code)));
+    }
+    assert_eq!(table, before);
 }

@@ -97,7 +97,7 @@ fn e4_steps_1_to_3() {
     assert_eq!(code(&mut table, b"21024642D00302FD32"), Some(0x05));
     assert_eq!(code(&mut table, b"21024642C00402FD32"), Some(0x05));
     // 8: 02H, before CID1, CID2 and VER.
-    assert_eq!(code(&mut table, b"20024747E00202FD31"), Some(0x02));
+    assert_eq!(code(&mut table, b"20024794E00202FD31"), Some(0x02));
 }
 
 #[test]
@@ -107,9 +107,9 @@ fn e5_steps_4_to_7() {
         code(table, &stretch(&frame(ver, 0x02, cid1, cid2, info)))
     };
     // CID1 before CID2 before VER before LENID.
-    assert_eq!(heard(&mut table, 0x20, 0x47, 0x47, &[1, 2]), Some(0x05));
-    assert_eq!(heard(&mut table, 0x20, 0x46, 0x47, &[1, 2]), Some(0x04));
+    assert_eq!(heard(&mut table, 0x20, 0x47, 0x94, &[1, 2]), Some(0x05));
     assert_eq!(heard(&mut table, 0x20, 0x46, 0x94, &[1, 2]), Some(0x04));
+    assert_eq!(heard(&mut table, 0x20, 0x46, 0x99, &[1, 2]), Some(0x04));
     assert_eq!(heard(&mut table, 0x20, 0x46, 0x42, &[1, 2]), Some(0x01));
     assert_eq!(heard(&mut table, 0x21, 0x46, 0x42, &[1, 2]), Some(0x05));
     assert_eq!(heard(&mut table, 0x21, 0x46, 0x42, &[]), Some(0x05));
@@ -117,7 +117,7 @@ fn e5_steps_4_to_7() {
     assert_eq!(heard(&mut table, 0x20, 0x46, 0x51, &[]), Some(0x01));
     assert_eq!(heard(&mut table, 0x20, 0x46, 0x4F, &[]), Some(0x00));
     assert_eq!(heard(&mut table, 0x20, 0x46, 0x4F, &[2]), Some(0x05));
-    let served = [0x42, 0x44, 0x4F, 0x51, 0x92, 0x93, 0x95, 0x96];
+    let served = [0x42, 0x44, 0x47, 0x4F, 0x51, 0x92, 0x93, 0x95, 0x96];
     for cid2 in (0..=255).filter(|cid2| !served.contains(cid2)) {
         assert_eq!(heard(&mut table, 0x20, 0x46, cid2, &[]), Some(0x04));
     }
@@ -205,9 +205,48 @@ fn e10_flag_is_00() {
             assert_eq!(reply[15..17], *format!("{command:02X}").as_bytes());
         }
     }
+    // 47H has a flag and no Command.
+    table[0].parameters.cell_high_voltage = 0x1234;
+    let reply = answered(&mut table, &ask(0x02, 0x47, &[]));
+    assert_eq!(reply[13..19], *b"001234");
     // No flag byte with 92H, 93H and 96H.
     for cid2 in [0x92, 0x93, 0x96] {
         let reply = answered(&mut table, &ask(0x03, cid2, &[0x03]));
         assert_eq!(reply[13..15], *b"03");
     }
+}
+
+#[test]
+fn e11_47h_answers_in_spite_of_a_link_fault() {
+    let mut table = stack(&[0x02, 0x03]);
+    let question = ask(0x03, 0x47, &[]);
+    let without = answered(&mut table, &question);
+    for faults in [[0, 1], [1, 0], [1, 1]] {
+        (table[0].link_fault, table[1].link_fault) = (faults[0], faults[1]);
+        assert_eq!(answered(&mut table, &question), without);
+    }
+    assert_eq!(code(&mut table, &ask(0x03, 0x42, &[0x03])), Some(0x91));
+    assert_eq!(code(&mut table, &ask(0x03, 0x92, &[0x03])), Some(0x91));
+    // What is off stays silent.
+    table[1].on = 0;
+    assert_eq!(code(&mut table, &question), None);
+}
+
+#[test]
+fn e12_ver_and_lenid_of_47h() {
+    let mut table = stack(&[0x02, 0x03]);
+    let heard = |table: &mut [_], ver, info: &[u8]| {
+        code(table, &stretch(&frame(ver, 0x02, 0x46, 0x47, info)))
+    };
+    assert_eq!(heard(&mut table, 0x21, &[]), Some(0x00));
+    for ver in (0..=255).filter(|&ver| ver != 0x21) {
+        assert_eq!(heard(&mut table, ver, &[]), Some(0x01));
+    }
+    // VER before LENID; a Command is one byte too many, FFH at the master too.
+    assert_eq!(heard(&mut table, 0x20, &[0x02]), Some(0x01));
+    for command in 0..=255 {
+        assert_eq!(heard(&mut table, 0x21, &[command]), Some(0x05));
+    }
+    assert_eq!(heard(&mut table, 0x21, &[0x02, 0x02]), Some(0x05));
+    assert_eq!(table, stack(&[0x02, 0x03]));
 }

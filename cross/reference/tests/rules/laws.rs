@@ -204,7 +204,7 @@ fn one_changed_character_lets_no_frame_out() {
 /// A question's stretch at a VER.
 fn asked(question: Question, ver: u8) -> Vec<u8> {
     let info = match question.cid2 {
-        0x4F | 0x51 => vec![],
+        0x47 | 0x4F | 0x51 => vec![],
         _ => vec![question.command],
     };
     stretch(&frame(ver, question.adr, 0x46, question.cid2, &info))
@@ -213,7 +213,7 @@ fn asked(question: Question, ver: u8) -> Vec<u8> {
 #[test]
 fn what_the_stand_in_answers_is_read() {
     let mut seeded = Seeded::new(7);
-    let mut read_whole = 0;
+    let (mut read_whole, mut parameters) = (0, 0);
     for _ in 0..6_000 {
         let mut theirs = seeded.table();
         let before = theirs.clone();
@@ -251,11 +251,13 @@ fn what_the_stand_in_answers_is_read() {
         let mut expected = old;
         if code == 0x00 {
             read_whole += 1;
+            parameters += usize::from(question.cid2 == 0x47);
             for (new, their) in expected.iter_mut().zip(&before) {
                 let group = question.command == 0xFF && their.on == 1;
                 match question.cid2 {
                     0x42 if group || their.adr == question.command => new.analog = their.analog,
                     0x44 if group || their.adr == question.command => new.alarm = their.alarm,
+                    0x47 if their.adr == question.adr => new.parameters = their.parameters,
                     0x92 if their.adr == question.adr => new.limits = their.limits,
                     0x93 if their.adr == question.adr => new.serial = their.serial,
                     0x96 if their.adr == question.adr => new.version = their.version,
@@ -268,7 +270,7 @@ fn what_the_stand_in_answers_is_read() {
             );
             assert_eq!(
                 reply.flag,
-                matches!(question.cid2, 0x42 | 0x44).then_some(0x00)
+                matches!(question.cid2, 0x42 | 0x44 | 0x47).then_some(0x00)
             );
         }
         assert_eq!(ours, expected);
@@ -283,12 +285,13 @@ fn what_the_stand_in_answers_is_read() {
         assert_eq!(theirs, switched);
     }
     assert!(read_whole > 1_000, "{read_whole}");
+    assert!(parameters > 100, "{parameters}");
 }
 
 #[test]
 fn accepted_replies_are_written_the_same() {
     let mut seeded = Seeded::new(8);
-    let mut accepted = 0;
+    let (mut accepted, mut parameters) = (0, 0);
     for _ in 0..6_000 {
         let mut table = seeded.table();
         for module in &mut table {
@@ -314,10 +317,12 @@ fn accepted_replies_are_written_the_same() {
             assert_eq!(table, before);
             continue;
         };
-        if result.code != 0x00 || ![0x42, 0x44, 0x92, 0x93, 0x96].contains(&asked_of.cid2) {
+        let records = [0x42, 0x44, 0x47, 0x92, 0x93, 0x96];
+        if result.code != 0x00 || !records.contains(&asked_of.cid2) {
             continue;
         }
         accepted += 1;
+        parameters += usize::from(asked_of.cid2 == 0x47);
         let place = table
             .iter()
             .position(|module| module.adr == asked_of.adr)
@@ -328,6 +333,7 @@ fn accepted_replies_are_written_the_same() {
             (0x44, 0xFF) => reference::write_alarm_group(&table, flag, out),
             (0x42, _) => reference::write_analog(&table[place], flag, out),
             (0x44, _) => reference::write_alarm(&table[place], flag, out),
+            (0x47, _) => reference::write_parameters(&table[place], flag, out),
             (0x92, _) => reference::write_limits(&table[place], out),
             (0x93, _) => reference::write_serial(&table[place], out),
             _ => reference::write_version(&table[place], out),
@@ -336,6 +342,28 @@ fn accepted_replies_are_written_the_same() {
         assert_eq!(say(asked_of.adr, 0x00, &again), reply);
     }
     assert!(accepted > 1_000, "{accepted}");
+    assert!(parameters > 100, "{parameters}");
+}
+
+#[test]
+fn written_parameters_are_read_and_read_parameters_are_written() {
+    let mut seeded = Seeded::new(11);
+    for _ in 0..2_000 {
+        let (source, flag) = (seeded.module(0x05), seeded.byte());
+        let info = written(|out| reference::write_parameters(&source, flag, out)).unwrap();
+        let mut table = vec![seeded.module(0x05), seeded.module(0x06)];
+        let mut expected = table.clone();
+        expected[0].parameters = source.parameters;
+        let reply = read(&mut table, (0x05, 0x47, 0x05), &say(0x05, 0x00, &info)).unwrap();
+        assert_eq!((reply.flag, table), (Some(flag), expected));
+        // Any 25 bytes are read, and written the same.
+        let info = seeded.bytes(25);
+        let mut table = vec![seeded.module(0x05)];
+        let reply = read(&mut table, (0x05, 0x47, 0x05), &say(0x05, 0x00, &info)).unwrap();
+        let flag = reply.flag.unwrap();
+        let again = written(|out| reference::write_parameters(&table[0], flag, out));
+        assert_eq!(again, Ok(info));
+    }
 }
 
 #[test]

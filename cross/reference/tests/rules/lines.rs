@@ -1,9 +1,12 @@
-//! The worked lines (PROTOCOL 12.2 to 12.9, 14.6), and the example of a listing (PROTOCOL 11.7).
+//! The worked lines (PROTOCOL 12.2 to 12.9, 12.11, 14.6), and the example of a listing (PROTOCOL 11.7).
 
 use crate::common::*;
 use reference::frame::{chksum, length};
 use reference::Refusal::{LowerCase, NoHexDigit, Plain};
-use reference::{judge, listing, milliamps, tenths_celsius, Header};
+use reference::{
+    answer, judge, listing, milliamps, tenths_celsius, write_parameters, Answer, Header,
+    Parameters, Station,
+};
 
 #[test]
 fn length_of_four_lenids() {
@@ -51,7 +54,7 @@ fn analog_question_to_adr_02() {
 #[test]
 fn code_04_from_adr_02() {
     assert_eq!(frame(0x21, 0x02, 0x46, 0x04, &[]), b"~210246040000FDAD\r");
-    let reply = answered(&mut stack(&[0x02]), &ask(0x02, 0x47, &[]));
+    let reply = answered(&mut stack(&[0x02]), &ask(0x02, 0x94, &[]));
     assert_eq!(reply, b"~210246040000FDAD\r");
 }
 
@@ -133,6 +136,55 @@ fn limits_line() {
     assert_eq!(limits.status, 0xC0);
     let again = written(|out| reference::write_limits(&table[0], out));
     assert_eq!(again, Ok(info));
+}
+
+/// INFO made by hand from V3.3's table of 47H: the question at VER 20, the reply, what is read of it,
+/// and written again.
+#[test]
+fn parameters_line() {
+    let question = b"~200246470000FDA7\r";
+    assert_eq!(frame(0x20, 0x02, 0x46, 0x47, &[]), question);
+    let info = h("00 0E74 0BEA 0B54 0C9F 0AAB 00FA D002 B798 ADD4 0D03 0A47 FF06");
+    let reply = frame(0x20, 0x02, 0x46, 0x00, &info);
+    assert_eq!(
+        reply,
+        b"~20024600B032000E740BEA0B540C9F0AAB00FAD002B798ADD40D030A47FF06F259\r"
+    );
+    let mut table = stack(&[0x02]);
+    table[0].parameters = Parameters::default();
+    let read_reply = read(&mut table, (0x02, 0x47, 0x02), &stretch(&reply)).unwrap();
+    assert_eq!((read_reply.ver, read_reply.flag), (0x20, Some(0x00)));
+    let limits = table[0].parameters;
+    assert_eq!(limits.cell_high_voltage, 3_700);
+    assert_eq!(limits.cell_low_voltage, 3_050);
+    assert_eq!(limits.cell_under_voltage, 2_900);
+    assert_eq!(tenths_celsius(limits.charge_high_temperature), 500);
+    assert_eq!(tenths_celsius(limits.charge_low_temperature), 0);
+    assert_eq!(milliamps(limits.charge_current), 25_000);
+    assert_eq!(limits.module_high_voltage, 53_250);
+    assert_eq!(limits.module_low_voltage, 47_000);
+    assert_eq!(limits.module_under_voltage, 44_500);
+    assert_eq!(tenths_celsius(limits.discharge_high_temperature), 600);
+    assert_eq!(tenths_celsius(limits.discharge_low_temperature), -100);
+    assert_eq!(milliamps(limits.discharge_current), -25_000);
+    assert_eq!(
+        written(|out| write_parameters(&table[0], 0x00, out)),
+        Ok(info.clone())
+    );
+    // The stand-in answers with it at VER 20, and with 01 at VER 21. With a Command it is 05.
+    let mut said = |ver: u8, question: &[u8]| {
+        let station = Station { ver, ..station() };
+        let mut out = vec![0; 4_112];
+        match answer(&mut table, &station, &stretch(question), &mut out) {
+            Answer::Reply(length) => out[..length].to_vec(),
+            other => panic!("{other:?}"),
+        }
+    };
+    assert_eq!(said(0x20, question), reply);
+    assert_eq!(said(0x21, question), frame(0x21, 0x02, 0x46, 0x01, &[]));
+    let with_command = b"~20024647E00202FD2E\r";
+    assert_eq!(frame(0x20, 0x02, 0x46, 0x47, &[0x02]), with_command);
+    assert_eq!(said(0x20, with_command), frame(0x20, 0x02, 0x46, 0x05, &[]));
 }
 
 #[test]

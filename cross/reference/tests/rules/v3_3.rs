@@ -74,7 +74,8 @@ fn addresses() {
     assert_eq!((0..=255).filter(|&adr| is_address(adr)).count(), 96);
 }
 
-/// "LENID = 40H" for 51H; 02H for a question with Command; the lengths of the tables.
+/// "LENID = 40H" for 51H; 02H for a question with Command; the lengths of the tables. 47H has a flag
+/// and twelve words.
 #[test]
 fn lengths_of_replies() {
     let mut table = stack(&[0x02]);
@@ -83,6 +84,7 @@ fn lengths_of_replies() {
     assert_eq!(lenid(0x51, &[]), 0x40);
     assert_eq!(lenid(0x42, &[0x02]), 2 * (2 + 13 + 2 * 15 + 2 * 5));
     assert_eq!(lenid(0x44, &[0x02]), 2 * (2 + 10 + 15 + 5));
+    assert_eq!(lenid(0x47, &[]), 2 * (1 + 2 * 12));
     assert_eq!(lenid(0x92, &[0x02]), 2 * 10);
     assert_eq!(lenid(0x93, &[0x02]), 2 * 17);
     assert_eq!(lenid(0x96, &[0x02]), 2 * 6);
