@@ -14,13 +14,13 @@ use parts::reading::Reading;
 use record::Alarm;
 use refusal::Refusal;
 
-#[derive(Drop)]
+#[derive(Clone, Copy)]
 pub struct AlarmTaken {
     pub taken: Taken,
     pub alarm: Alarm,
 }
 
-#[derive(Drop)]
+#[derive(Clone, Copy)]
 pub struct AlarmsTaken {
     pub taken: Taken,
     pub count: usize,

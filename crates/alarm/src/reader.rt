@@ -14,7 +14,7 @@ use parts::reading::Reading;
 use record::Alarm;
 use refusal::Refusal;
 
-#[derive(Drop)]
+#[derive(Clone, Copy)]
 pub struct AlarmRead {
     pub reading: Reading,
     pub alarm: Alarm,
@@ -40,7 +40,7 @@ fn fill_codes(info: &[u8], from: usize, list: &mut [u8]) -> Reading
     Reading::Read(at)
 }
 
-#[derive(Drop)]
+#[derive(Clone, Copy)]
 struct CellCodes {
     reading: Reading,
     count: u8,
@@ -84,7 +84,7 @@ fn read_cell_codes(info: &[u8], at: usize) -> CellCodes
     }
 }
 
-#[derive(Drop)]
+#[derive(Clone, Copy)]
 struct TemperatureCodes {
     reading: Reading,
     count: u8,
@@ -128,7 +128,7 @@ fn read_temperature_codes(info: &[u8], at: usize) -> TemperatureCodes
     }
 }
 
-#[derive(Drop)]
+#[derive(Clone, Copy)]
 struct Singles {
     reading: Reading,
     charge_current: u8,
@@ -179,7 +179,7 @@ fn read_singles(info: &[u8], at: usize) -> Singles
 
 // ---- the status
 
-#[derive(Drop)]
+#[derive(Clone, Copy)]
 pub struct StatusRead {
     pub reading: Reading,
     pub status: [u8; 5],

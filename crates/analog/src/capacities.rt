@@ -14,7 +14,7 @@ use fields::Next;
 use parts::reading::Reading;
 use refusal::Refusal;
 
-#[derive(Drop)]
+#[derive(Clone, Copy)]
 pub struct CapacitiesRead {
     pub reading: Reading,
     pub remaining: u32,
@@ -23,7 +23,7 @@ pub struct CapacitiesRead {
 }
 
 // A capacity of three bytes and the place after it, or that INFO ends before it does.
-#[derive(Drop)]
+#[derive(Clone, Copy)]
 enum Capacity {
     Field(u32, usize),
     Ends,

@@ -14,13 +14,13 @@ use parts::reading::Reading;
 use record::Analog;
 use refusal::Refusal;
 
-#[derive(Drop)]
+#[derive(Clone, Copy)]
 pub struct AnalogTaken {
     pub taken: Taken,
     pub analog: Analog,
 }
 
-#[derive(Drop)]
+#[derive(Clone, Copy)]
 pub struct AnalogsTaken {
     pub taken: Taken,
     pub count: usize,

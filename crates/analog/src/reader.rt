@@ -12,13 +12,13 @@ use parts::reading::Reading;
 use record::Analog;
 use refusal::Refusal;
 
-#[derive(Drop)]
+#[derive(Clone, Copy)]
 pub struct AnalogRead {
     pub reading: Reading,
     pub analog: Analog,
 }
 
-#[derive(Drop)]
+#[derive(Clone, Copy)]
 struct Cells {
     reading: Reading,
     count: u8,
@@ -62,7 +62,7 @@ fn read_cells(info: &[u8], at: usize) -> Cells
     }
 }
 
-#[derive(Drop)]
+#[derive(Clone, Copy)]
 struct Temperatures {
     reading: Reading,
     count: u8,

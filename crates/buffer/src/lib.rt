@@ -1,12 +1,14 @@
 // Bytes put into a lent buffer from a place on. Each function answers the place after what it put.
 
+#![tactic(auto)]
+
 ghost use Rattle.std.specs.Prelude.{[], ◌∷◌};
 ghost use Rattle.buffer.specs.Put.{Room, Put};
 
 use refusal::Refusal;
 
 // What a writer answers: how many bytes it wrote, or its refusal.
-#[derive(Drop)]
+#[derive(Clone, Copy)]
 pub enum Written {
     Wrote(usize),
     Refused(Refusal),

@@ -1,5 +1,7 @@
 // The commands under CID1 46H, and what a stretch says: its judgement, its four bytes, LENID and the byte at INFO's first place.
 
+#![tactic(auto)]
+
 ghost use Rattle.std.specs.Prelude.{◌≡◌};
 ghost use Rattle.command.specs.Command.{kind_of, form_of, with_command, plain_terms, terms_of};
 ghost use Rattle.frame.specs.Judge.{paper};
@@ -8,7 +10,7 @@ ghost use Rattle.command.specs.Heard.{number_of, words, words_of};
 use frame::{Header, Judged};
 
 // What a CID2 asks for; the group forms of 42H and 44H are those with Command FFH.
-#[derive(Drop)]
+#[derive(Clone, Copy)]
 pub enum Kind {
     Analog,
     AnalogGroup,
@@ -26,7 +28,7 @@ pub enum Kind {
 
 // What a command asks of its question: whether it is served, whether VER must be the table's, its LENID, whether it has a Command byte, and
 // whether that may be FFH at the master.
-#[derive(Drop)]
+#[derive(Clone, Copy)]
 pub struct Terms {
     pub served: bool,
     pub same_ver: bool,
@@ -36,7 +38,7 @@ pub struct Terms {
 }
 
 // What a stretch says: the judgement, and what stands at its places.
-#[derive(Drop)]
+#[derive(Clone, Copy)]
 pub struct Heard {
     pub judged: Judged,
     pub header: Header,
@@ -44,6 +46,7 @@ pub struct Heard {
     pub command: u8,
 }
 
+#[tactic(auto, unfolding(crate::specs::Command::kind_of))]
 pub fn kind_of(cid2: u8) -> Kind
     ensures { result ≡ kind_of cid2 }
 {
@@ -62,6 +65,7 @@ pub fn kind_of(cid2: u8) -> Kind
 }
 
 // The kind of a question, by its Command too.
+#[tactic(auto, unfolding(crate::specs::Command::form_of))]
 pub fn form_of(cid2: u8, command: u8) -> Kind
     ensures { result ≡ form_of cid2 command }
 {
@@ -99,6 +103,7 @@ fn plain(served: bool, ver: bool) -> Terms
     }
 }
 
+#[tactic(auto, unfolding(crate::specs::Command::terms_of))]
 pub fn terms_of(kind: Kind) -> Terms
     ensures { result ≡ terms_of kind }
 {

@@ -1,5 +1,7 @@
 // The entries under the interface, over the table by value, with answers as numbers.
 
+#![tactic(auto)]
+
 ghost use Rattle.std.specs.Prelude.{◌≡◌, cond};
 ghost use Rattle.table.specs.Table.{members};
 ghost use Rattle.table.specs.Rule.{keeps};
@@ -35,7 +37,7 @@ pub fn alarm_group(out: &mut [u8], flag: u8, given: Table) -> FlatWritten
 }
 
 // What the stand-in answers, and the place of the record that goes off: the count, past every record, where none does.
-#[derive(Drop)]
+#[derive(Clone, Copy)]
 pub struct Served {
     pub answered: FlatAnswered,
     pub off: usize,
@@ -53,7 +55,7 @@ pub fn serve(station: Station, given: Table, stretch: &[u8], out: &mut [u8]) -> 
 }
 
 // What the reply reader tells, how many records of the lent table are to be stored, and the table then.
-#[derive(Drop)]
+#[derive(Clone, Copy)]
 pub struct ReadReply {
     pub reply: FlatReply,
     pub stored: usize,

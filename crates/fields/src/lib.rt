@@ -1,5 +1,7 @@
 // The field reader: the next byte and the next word of INFO. INFO is lent as its hex characters, and a place in it counts bytes.
 
+#![tactic(auto)]
+
 ghost use Rattle.std.specs.Prelude.{◌≡◌};
 ghost use Rattle.hex_chars.specs.Hex.{unhexes};
 ghost use Rattle.codec.specs.Codec.{byte};
@@ -8,7 +10,7 @@ ghost use Rattle.codec.specs.Reading.{reads};
 ghost use Rattle.fields.specs.Next.{paper, wide};
 
 // A field and the place after it, or that INFO ends before it does.
-#[derive(Drop)]
+#[derive(Clone, Copy)]
 pub enum Next {
     Field(u16, usize),
     Ends,
@@ -39,7 +41,7 @@ fn word_from(info: &[u8], at: usize) -> Next
 }
 
 // INFO and a place in it.
-#[derive(Drop)]
+#[derive(Clone, Copy)]
 pub struct Fields<'a> {
     pub info: &'a [u8],
     pub at: usize,

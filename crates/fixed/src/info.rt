@@ -13,31 +13,31 @@ use parts::reading::Reading;
 use record::{Limits, Parameters};
 use refusal::Refusal;
 
-#[derive(Drop)]
+#[derive(Clone, Copy)]
 pub struct ParametersTaken {
     pub taken: Taken,
     pub parameters: Parameters,
 }
 
-#[derive(Drop)]
+#[derive(Clone, Copy)]
 pub struct LimitsTaken {
     pub taken: Taken,
     pub limits: Limits,
 }
 
-#[derive(Drop)]
+#[derive(Clone, Copy)]
 pub struct SerialTaken {
     pub taken: Taken,
     pub serial: [u8; 16],
 }
 
-#[derive(Drop)]
+#[derive(Clone, Copy)]
 pub struct VersionTaken {
     pub taken: Taken,
     pub version: [u8; 5],
 }
 
-#[derive(Drop)]
+#[derive(Clone, Copy)]
 pub struct MakerTaken {
     pub taken: Taken,
     pub maker: [u8; 32],

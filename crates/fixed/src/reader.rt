@@ -18,7 +18,7 @@ use refusal::Refusal;
 
 // ---- 47H
 
-#[derive(Drop)]
+#[derive(Clone, Copy)]
 pub struct ParametersRead {
     pub reading: Reading,
     pub parameters: Parameters,
@@ -74,7 +74,7 @@ pub fn read_parameters(info: &[u8], at: usize) -> ParametersRead
 
 // ---- 92H
 
-#[derive(Drop)]
+#[derive(Clone, Copy)]
 pub struct LimitsRead {
     pub reading: Reading,
     pub limits: Limits,
@@ -126,7 +126,7 @@ pub fn read_limits(info: &[u8], at: usize) -> LimitsRead
 
 // ---- 93H
 
-#[derive(Drop)]
+#[derive(Clone, Copy)]
 pub struct SerialRead {
     pub reading: Reading,
     pub serial: [u8; 16],
@@ -159,7 +159,7 @@ pub fn read_serial(info: &[u8], at: usize) -> SerialRead
 
 // ---- 96H
 
-#[derive(Drop)]
+#[derive(Clone, Copy)]
 pub struct VersionRead {
     pub reading: Reading,
     pub version: [u8; 5],
@@ -192,7 +192,7 @@ pub fn read_version(info: &[u8], at: usize) -> VersionRead
 
 // ---- 51H
 
-#[derive(Drop)]
+#[derive(Clone, Copy)]
 pub struct MakerRead {
     pub reading: Reading,
     pub maker: [u8; 32],

@@ -1,5 +1,7 @@
 // What C sees of an enum: a struct of the paper's numbers. Kinds and numbers have 32 bits, a length the width of a size.
 
+#![tactic(auto)]
+
 ghost use Rattle.std.specs.Prelude.{◌≡◌};
 ghost use Rattle.buffer.specs.Writing.{paper as paper_written};
 ghost use Rattle.frame.specs.Judge.{paper as paper_judged};
@@ -18,7 +20,7 @@ use standin::Answered;
 
 // A writer's answer: the refusal's number and 0, or 0 and how many bytes.
 #[repr(C)]
-#[derive(Drop)]
+#[derive(Clone, Copy)]
 pub struct FlatWritten {
     pub number: u32,
     pub length: usize,
@@ -26,7 +28,7 @@ pub struct FlatWritten {
 
 // An event: kind 0 nothing, 1 a frame with its four bytes and LENID, 2 refused, with 4 and 9 the place of the first character that isn't hex.
 #[repr(C)]
-#[derive(Drop)]
+#[derive(Clone, Copy)]
 pub struct FlatEvent {
     pub kind: u32,
     pub number: u32,
@@ -40,21 +42,21 @@ pub struct FlatEvent {
 
 // A receiver: open 0 is waiting, whatever the count; any other is open.
 #[repr(C)]
-#[derive(Drop)]
+#[derive(Clone, Copy)]
 pub struct FlatReceiver {
     pub open: usize,
     pub count: usize,
 }
 
 #[repr(C)]
-#[derive(Drop)]
+#[derive(Clone, Copy)]
 pub struct FlatStepped {
     pub next: FlatReceiver,
     pub event: FlatEvent,
 }
 
 #[repr(C)]
-#[derive(Drop)]
+#[derive(Clone, Copy)]
 pub struct FlatRan {
     pub next: FlatReceiver,
     pub event: FlatEvent,
@@ -64,7 +66,7 @@ pub struct FlatRan {
 
 // The stand-in's answer: kind 0 silence, 1 a reply of so many bytes, 2 refused.
 #[repr(C)]
-#[derive(Drop)]
+#[derive(Clone, Copy)]
 pub struct FlatAnswered {
     pub kind: u32,
     pub number: u32,
@@ -74,7 +76,7 @@ pub struct FlatAnswered {
 // A reading: kind 1 read, 2 refused, with 4 and 9 the place of the first character that isn't hex; the 32 bytes of 51H are zeros for every
 // other command and with a refusal.
 #[repr(C)]
-#[derive(Drop)]
+#[derive(Clone, Copy)]
 pub struct FlatReply {
     pub kind: u32,
     pub number: u32,
@@ -87,7 +89,7 @@ pub struct FlatReply {
 
 // A listing: its receiver, the offset of the next byte, and the totals so far.
 #[repr(C)]
-#[derive(Drop)]
+#[derive(Clone, Copy)]
 pub struct FlatListing {
     pub receiver: FlatReceiver,
     pub offset: u32,
@@ -96,7 +98,7 @@ pub struct FlatListing {
 }
 
 #[repr(C)]
-#[derive(Drop)]
+#[derive(Clone, Copy)]
 pub struct FlatListed {
     pub next: FlatListing,
     pub taken: usize,

@@ -1,5 +1,7 @@
 // The frame: LENGTH and CHKSUM, the judging of a stretch of characters, and the writing of a frame.
 
+#![tactic(auto)]
+
 ghost use Rattle.std.specs.Prelude.{◌≡◌, ◌+◌, ◌-◌, ◌%◌, ◌<◌, ◌≤◌, false, [], ◌∷◌, ◌++◌, length, take, drop};
 ghost use Rattle.hex_chars.specs.Hex.{all_hex, hexes, word};
 ghost use Rattle.buffer.specs.Put.{Room, Put};
@@ -23,7 +25,7 @@ pub const MOST: usize = 4110;
 const BLOCK: usize = 64;
 
 // The four bytes that a frame starts with.
-#[derive(Drop)]
+#[derive(Clone, Copy)]
 pub struct Header {
     pub ver: u8,
     pub adr: u8,
@@ -33,7 +35,7 @@ pub struct Header {
 
 // What the characters between SOI and CR are: a frame with its header and LENID, or the refusal, with the place of the first character that
 // isn't hex where that is why.
-#[derive(Drop)]
+#[derive(Clone, Copy)]
 pub enum Judged {
     Frame(Header, usize),
     Refused(Refusal),
@@ -168,6 +170,7 @@ fn put_tail(out: &mut [u8], end: usize) -> usize
 }
 
 // Writes a frame from SOI to CR, INFO given as bytes: 33 above 2,047 of them, then 32.
+#[tactic(auto, unfolding(buffer::specs::Writing::writing))]
 pub fn write(header: Header, info: &[u8], out: &mut [u8]) -> Written
     ensures { Writes (framed header info.now out.old) result out.new }
 {

@@ -1,5 +1,7 @@
 // The group writers: INFO of 42H and 44H for Command FFH, with the records of the members that are on, in rising ADR.
 
+#![tactic(auto)]
+
 ghost use Rattle.std.specs.Prelude.{◌≡◌, true, ◌+◌, ◌<◌, length};
 ghost use Rattle.buffer.specs.Put.{Room, Put};
 ghost use Rattle.buffer.specs.Writing.{Writes};

@@ -1,4 +1,3 @@
-pub mod Shared
 pub mod Lent
 pub mod Ones
 pub mod ReadBack

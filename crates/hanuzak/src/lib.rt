@@ -1,5 +1,7 @@
 // The interface of the library: the lent table with its thin functions, and what C calls.
 
+#![tactic(auto)]
+
 ghost use Rattle.std.specs.Prelude.{◌≡◌, cond, get_or, set};
 ghost use Rattle.frame.specs.Judge.{judge};
 ghost use Rattle.frame.specs.Write.{framed};

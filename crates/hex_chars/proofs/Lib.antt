@@ -1,3 +1,4 @@
 pub mod Laws
 pub mod Scan
 pub mod Bad
+pub mod Turns

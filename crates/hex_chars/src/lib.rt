@@ -1,5 +1,7 @@
 // Hex characters, upper case only: what a character says, a digit's character, and bytes and words by their characters.
 
+#![tactic(auto)]
+
 ghost use Rattle.std.specs.Prelude.{◌≡◌, ◌+◌, ◌-◌, ◌%◌, ◌<◌, ◌≤◌, min, length, ◌==◌};
 ghost use Rattle.buffer.specs.Put.{Room, Put};
 ghost use Rattle.hex_chars.specs.Hex.{is_hex, digit_of, char_of, byte_of, byte_at, word_at, all_hex, bad_place, is_lower, pair_of, hexes, word};
@@ -38,6 +40,7 @@ fn digit(c: u8) -> u8
 }
 
 // The character of a digit; of a larger number, that of its last digit.
+#[tactic(auto, unfolding(crate::specs::Hex::char_of))]
 fn char_of(d: u8) -> u8
     ensures { result ≡ char_of (d % 16) }
 {
@@ -130,6 +133,7 @@ pub fn is_lower(c: u8) -> bool
 }
 
 // The place of the first character that isn't hex, or the length: one by one, since it is asked only of characters that are refused.
+#[tactic(auto, using(crate::proofs::Turns::turns, std::proofs::lemmas::Bool::Decides::nat_tests), unfolding(crate::specs::Hex::bad_place))]
 pub fn first_bad(s: &[u8]) -> usize
     ensures { result ≡ bad_place s.now }
 {

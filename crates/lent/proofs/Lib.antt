@@ -1,5 +1,2 @@
 pub mod Rows
-pub mod Asks
-pub mod Element
 pub mod Loaded
-pub mod Places

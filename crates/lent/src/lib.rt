@@ -1,5 +1,7 @@
 // A lent table, a slice of records, by value: loaded, and put back.
 
+#![tactic(auto)]
+
 ghost use Rattle.std.specs.Prelude.{◌≡◌, cond, take, ltb};
 ghost use Rattle.lent.specs.Loaded.{over, empty, loaded};
 

@@ -1,5 +1,7 @@
 // Runs worked lines of PROTOCOL's chapters 12 and 14, those that are not proved (specs/Lines.antt has the others) and some that are, and prints what each gives.
 
+#![tactic(auto)]
+
 use frame::Header;
 use libc::STDOUT_FILENO;
 use parts::front::Taken;

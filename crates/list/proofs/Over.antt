@@ -21,7 +21,7 @@ use Rattle.listing.proofs.Calls.{saying, calls-join, calls-more, calls-offset, a
 use Rattle.list.specs.declared.Part.{Part}
 use Rattle.list.specs.declared.Turn.{Turn}
 use Rattle.list.specs.List.{part_of, Parts, Over, Pieces, gave, failed, got, Turns, goes_on, whole, Sofar, All, Closes, Printed, Prints}
-use Rattle.list.proofs.Answers.{got-few, got-some}
+use Rattle.list.proofs.Answered.{got-few, got-some}
 
 pub over_none : (l : Listing) (store bytes : List ℕ) → Over l store bytes l store bytes
 unfolding calls

@@ -2,6 +2,8 @@
 // Where a read or a write fails it says why on standard error, and writes no totals.
 // What the operating system answers is handed on as it came, as a parameter or in a result, so that what follows from it has a contract.
 
+#![tactic(auto)]
+
 ghost use Rattle.std.specs.Prelude.{◌≡◌, ◌≤◌, ◌<◌, min, length};
 ghost use Rattle.libc.specs.Io.{Moved};
 ghost use Rattle.listing.specs.Piece.{left};
@@ -13,21 +15,21 @@ use libc::{STDERR_FILENO, STDIN_FILENO, STDOUT_FILENO};
 use listing::{Listed, Listing};
 
 // What a part of a piece gave: the listing then, and how many bytes were taken, 0 where its text could not be written.
-#[derive(Drop)]
+#[derive(Clone, Copy)]
 struct Part {
     next: Listing,
     taken: usize,
 }
 
 // What a piece gave: the listing then, and whether every text was written.
-#[derive(Drop)]
+#[derive(Clone, Copy)]
 struct Piece {
     next: Listing,
     written: bool,
 }
 
 // What a read gave: besides, what it answered.
-#[derive(Drop)]
+#[derive(Clone, Copy)]
 struct Turn {
     next: Listing,
     read: isize,

@@ -1,7 +1,5 @@
 -- Calls that keep their contracts are those of the definition, so what is said of these is said of them.
-use Rattle.std.proofs.Common.{◌≡◌, ℕ, List, [], ◌∷◌, ◌++◌, map, take, drop, sym, refl, ap, ◌∙◌, subst}
-use Rattle.buffer.specs.Writing.{Left}
-use Rattle.texts.specs.Block.{printed}
+use Rattle.std.proofs.Common.{◌≡◌, ℕ, List, [], ◌∷◌, ◌++◌, take, drop, sym, refl, ap, ◌∙◌, subst}
 use Rattle.listing.specs.declared.Listing.{Listing}
 use Rattle.listing.specs.Piece.{fresh, left, Call, list, closing}
 use Rattle.listing.specs.Calls.{Given, text, calls}

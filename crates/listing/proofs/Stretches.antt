@@ -22,7 +22,7 @@ use Rattle.receiver.proofs.Streams.{hexy-frame, in_range, cut, cut-stretch, exac
 use Rattle.receiver.proofs.Places.{told-bad}
 use Rattle.texts.specs.Block.{Block, frame_block, refusal_block, placed_block, block_of, printed}
 use Rattle.listing.specs.Stream.{last_soi, blocks_from, blocks_of, listing_of}
-use Rattle.listing.specs.Stretches.{Opened, Right, at, Rising, Tells}
+use Rattle.listing.specs.Stretches.{Opened, Right, Rising, Tells}
 use Rattle.listing.specs.Piece.{fresh, left, closing}
 use Rattle.listing.specs.Calls.{Given, text, calls}
 use Rattle.listing.proofs.Streams.{fits-step}

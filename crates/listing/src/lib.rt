@@ -1,5 +1,7 @@
 // The listing of a capture: the lines of each event, then the two totals, as text in a lent buffer.
 
+#![tactic(auto)]
+
 ghost use Rattle.std.specs.Prelude.{◌≡◌, ◌+◌, ◌-◌, ◌<◌, ◌≤◌, length, if◌then◌else◌, nat_lt};
 ghost use Rattle.buffer.specs.Put.{Put};
 ghost use Rattle.buffer.specs.Writing.{Writes};
@@ -24,7 +26,7 @@ pub const ROOM: usize = 4200;
 pub const CLOSING: usize = 38;
 
 // Where a listing stands: its receiver, the offset of the next byte, and the totals so far.
-#[derive(Drop)]
+#[derive(Clone, Copy)]
 pub struct Listing {
     pub receiver: Receiver,
     pub offset: u32,
@@ -33,7 +35,7 @@ pub struct Listing {
 }
 
 // What a piece gave: the listing after the bytes that were taken, how many those are, and how many bytes of text stand at the front of the buffer.
-#[derive(Drop)]
+#[derive(Clone, Copy)]
 pub struct Listed {
     pub next: Listing,
     pub taken: usize,
@@ -41,7 +43,7 @@ pub struct Listed {
 }
 
 // The same of a part of a piece, with the place after its text.
-#[derive(Drop)]
+#[derive(Clone, Copy)]
 struct Part {
     next: Listing,
     taken: usize,

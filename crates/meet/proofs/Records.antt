@@ -32,7 +32,7 @@ use Rattle.parts.specs.declared.front.Taken.{Taken}
 use Rattle.parts.specs.Took.{paper, taken, bare}
 use Rattle.parts.specs.Groups.{places}
 use Rattle.parts.proofs.front.Ones.{taken-one}
-use Rattle.parts.proofs.front.Answers.{when-taken}
+use Rattle.parts.proofs.front.Answered.{when-taken}
 use Rattle.table.proofs.rule.Rules.{is_true}
 use Rattle.table.proofs.rule.Fine.{keeps-parts}
 use Rattle.table.specs.declared.Station.{Station}

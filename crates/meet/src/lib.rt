@@ -1,1 +1,3 @@
 // The stand-in and the reply reader meet: theorems over their contracts, and no function.
+
+#![tactic(auto)]

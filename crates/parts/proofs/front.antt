@@ -1,4 +1,4 @@
 pub mod Stages
 pub mod Turns
 pub mod Ones
-pub mod Answers
+pub mod Answered

@@ -14,7 +14,7 @@ use fields::Next;
 use refusal::Refusal;
 
 // How an INFO was taken: with its flag, 0 for kinds that have none, or the refusal.
-#[derive(Drop)]
+#[derive(Clone, Copy)]
 pub enum Taken {
     Taken(u8),
     Refused(Refusal),
@@ -42,7 +42,7 @@ pub fn read_command(info: &[u8], at: usize, asked: u8) -> Reading
     Reading::Read(next)
 }
 
-#[derive(Drop)]
+#[derive(Clone, Copy)]
 pub struct FrontRead {
     pub reading: Reading,
     pub flag: u8,

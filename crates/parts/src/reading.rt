@@ -10,7 +10,7 @@ use fields::Next;
 use refusal::Refusal;
 
 // How a reading went: the place after the record, or the refusal.
-#[derive(Drop)]
+#[derive(Clone, Copy)]
 pub enum Reading {
     Read(usize),
     Refused(Refusal),

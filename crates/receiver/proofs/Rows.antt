@@ -85,3 +85,6 @@ module _ (store : List ℕ) (b : ℕ) (room : 4110 ≤ length store) where
     pub row_more : b ≢ SOI → b ≢ CR → n ≢ 4110 → gives (Open (n + 1)) (set store n b) nothing ≡ step (Open n) store b
     unfolding step_by
     row_more e f g = rw (add-one n, ← row (Open n) other fits (is-other b e f)) (simp (lt-ltb n 4110 (omega arith)))
+
+-- all of them, for the functions that step
+pub ruleset rows = (step-short, step-beyond, row_opens, row-idle, row-again, row-judged, row-full, row_more)

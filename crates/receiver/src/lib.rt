@@ -1,5 +1,7 @@
 // The receiver: fed by bytes, it writes characters to a lent store and hands out frames, each at its own CR.
 
+#![tactic(auto)]
+
 ghost use Rattle.std.specs.Prelude.{◌≡◌, cond, ◌<◌, ◌≤◌, length};
 ghost use Rattle.buffer.specs.Put.{Room};
 ghost use Rattle.frame.specs.Judge.{paper as paper_judged};
@@ -12,7 +14,7 @@ use frame::{CR, Header, Judged, MOST, SOI};
 use refusal::Refusal;
 
 // Waiting, or open with a count of characters.
-#[derive(Drop)]
+#[derive(Clone, Copy)]
 pub enum Receiver {
     Waiting,
     Open(usize),
@@ -20,7 +22,7 @@ pub enum Receiver {
 
 // What a byte gives: nothing, a frame with its four bytes and LENID, or a refusal, with the place of the first character that isn't hex
 // where that is why.
-#[derive(Drop)]
+#[derive(Clone, Copy)]
 pub enum Event {
     Nothing,
     Frame(Header, usize),
@@ -28,14 +30,14 @@ pub enum Event {
     RefusedAt(Refusal, u32),
 }
 
-#[derive(Drop)]
+#[derive(Clone, Copy)]
 pub struct Stepped {
     pub next: Receiver,
     pub event: Event,
 }
 
 // What a run leaves: how many bytes it took, and how many characters were held when the event's byte came.
-#[derive(Drop)]
+#[derive(Clone, Copy)]
 pub struct Ran {
     pub next: Receiver,
     pub event: Event,
@@ -206,6 +208,7 @@ fn least(a: usize, b: usize) -> usize
 }
 
 // One byte while waiting.
+#[tactic(auto, using(crate::proofs::Rows::rows))]
 fn wait_step(store: &[u8], byte: u8) -> Stepped
     requires { 4110 ≤ length store.now }
     ensures { Steps Receiver.Waiting store.now byte result store.now }
@@ -223,6 +226,7 @@ fn wait_step(store: &[u8], byte: u8) -> Stepped
 }
 
 // One byte while open with a count of characters, the common case first.
+#[tactic(auto, using(crate::proofs::Rows::rows))]
 fn open_step(store: &mut [u8], count: usize, byte: u8) -> Stepped
     requires { (4110 ≤ length store.old) × (count ≤ 4110) }
     ensures { Steps (Receiver.Open count) store.old byte result store.new }
@@ -397,6 +401,7 @@ impl Receiver {
     }
 
     // One byte: the next receiver and the event. 32 for a store below 4,110 bytes, then 35 for a count above 4,110.
+    #[tactic(auto, using(crate::proofs::Rows::rows))]
     pub fn step(self, store: &mut [u8], byte: u8) -> Stepped
         ensures { Steps self store.old byte result store.new }
     {

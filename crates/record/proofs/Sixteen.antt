@@ -15,10 +15,10 @@ use Rattle.buffer.proofs.Lists.{by_cond}
 -- X is a number of sixteen bits, held in 32
 module _ {X z : ℤ} (e : X ≡ z) (f : SFits w16 z) where
   pub as32 : SFits w32 X
-  as32 = subst⁻¹ (λ (y : ℤ). SFits w32 y) e (sfits_widen tt f)
+  as32 = subst⁻¹ (λ (y : ℤ). SFits w32 y) e (sfits_widen {w = w16} {w' = w32} tt f)
 
   pub through32 : to_z w32 (of_z w32 X) ≡ z
-  through32 = ap (λ (y : ℤ). to_z w32 (of_z w32 y)) e ∙ to_z-of_z (sfits_widen tt f)
+  through32 = ap (λ (y : ℤ). to_z w32 (of_z w32 y)) e ∙ to_z-of_z (sfits_widen {w = w16} {w' = w32} tt f)
 
   pub as16 : SFits w16 (to_z w32 (of_z w32 X))
   as16 = subst⁻¹ (λ (y : ℤ). SFits w16 y) through32 f

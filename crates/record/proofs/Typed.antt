@@ -1,6 +1,6 @@
 -- What the types of the structs' fields already give: a limits record, a serial number and a version can always be encoded, and so can each value of a list.
 use mathlib.Core.Path.{◌≡◌, refl, sym, ap, ◌∙◌, subst}
-use mathlib.Core.List.{List, [], ◌∷◌, map, map-id}
+use mathlib.Core.List.{List, [], ◌∷◌}
 use mathlib.Core.Bool.{and-true}
 use Prim.Native.Nat.{ℕ, zero, suc, ◌<◌, ◌≤◌}
 use native.Mathlib.Omega.{arith}
@@ -82,8 +82,8 @@ each-byte (suc n) [] us e p = absurd (omega arith)
 each-byte (suc n) (x ∷ xs) [] e p = absurd p
 each-byte (suc n) (x ∷ xs) (u ∷ us) e p = yes_and (ltb x 256) (row_ok byte n xs) (lt→ltb x 256 p.0.1) (each-byte n xs us (omega arith) p.1)
 
-pub bytes_ok : (n : ℕ) (xs : List ℕ) (vs : List Val) → Is (Array u8 n) (map (λ (x : ℕ). x) xs) vs → T (row_ok byte n xs)
-bytes_ok n xs vs g = each-byte n xs g.0 (ap length (sym (map-id xs)) ∙ g.1.0.1) (subst (λ (l : List ℕ). shadow (each ℕ u8.own_val l g.0)) (map-id xs) g.1.1)
+pub bytes_ok : (n : ℕ) (xs : List ℕ) (vs : List Val) → Is (Array u8 n) xs vs → T (row_ok byte n xs)
+bytes_ok n xs vs g = each-byte n xs g.0 g.1.0.1 g.1.1
 
 pub serial-ok : (m : Module) (vs : List Val) → Is M.the_row m vs → T (serial.ok m.serial)
 unfolding serial
@@ -112,11 +112,10 @@ pub record Signeds (N : ℕ) (xs : List ℤ) : Type 0 where
   pub long : length xs ≡ N
   pub front : (n : ℕ) → n ≤ N → T (row_ok signed n (take n xs))
 
-signeds : (N : ℕ) (xs : List ℤ) (vs : List Val) → Is (Array (SInt w16) N) (map (λ (x : ℤ). x) xs) vs → Signeds N xs
+signeds : (N : ℕ) (xs : List ℤ) (vs : List Val) → Is (Array (SInt w16) N) xs vs → Signeds N xs
 signeds N xs vs g =
-    let l : length xs ≡ N = ap length (sym (map-id xs)) ∙ g.1.0.1 in
-    let p = subst (λ (l : List ℤ). shadow (each ℤ (SInt w16).own_val l g.0)) (map-id xs) g.1.1 in
-    record { long = l; front = λ n h. each_signed n xs g.0 (omega arith) p }
+    let l : length xs ≡ N = g.1.0.1 in
+    record { long = l; front = λ n h. each_signed n xs g.0 (omega arith) g.1.1 }
 
 -- of the first n codes only the test is left to ask
 each-code : (n : ℕ) (xs : List ℕ) (us : List Val) → n ≤ length xs → shadow (each ℕ u8.own_val xs us) → row_ok code n (take n xs) ≡ every is_alarm_code (take n xs)
@@ -129,11 +128,10 @@ pub record Codes (N : ℕ) (xs : List ℕ) : Type 0 where
   pub long : length xs ≡ N
   pub front : (n : ℕ) → n ≤ N → row_ok code n (take n xs) ≡ every is_alarm_code (take n xs)
 
-codes-of : (N : ℕ) (xs : List ℕ) (vs : List Val) → Is (Array u8 N) (map (λ (x : ℕ). x) xs) vs → Codes N xs
+codes-of : (N : ℕ) (xs : List ℕ) (vs : List Val) → Is (Array u8 N) xs vs → Codes N xs
 codes-of N xs vs g =
-    let l : length xs ≡ N = ap length (sym (map-id xs)) ∙ g.1.0.1 in
-    let p = subst (λ (l : List ℕ). shadow (each ℕ u8.own_val l g.0)) (map-id xs) g.1.1 in
-    record { long = l; front = λ n h. each-code n xs g.0 (omega arith) p }
+    let l : length xs ≡ N = g.1.0.1 in
+    record { long = l; front = λ n h. each-code n xs g.0 (omega arith) g.1.1 }
 
 pub record AnalogTyped (a : Analog) : Type 0 where
   pub cells : Signeds 16 a.cells

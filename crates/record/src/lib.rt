@@ -1,5 +1,7 @@
 // The module record, as 42H, 44H, 47H, 92H, 93H and 96H carry it, and what its numbers mean. Places of a list beyond its count are 0.
 
+#![tactic(auto)]
+
 ghost use Rattle.std.specs.Prelude.{◌≡◌};
 ghost use Rattle.std.specs.Int.{w16};
 ghost use Rattle.std.proofs.Common.{to_z, of_z};
@@ -10,7 +12,7 @@ ghost use Rattle.record.specs.Nothing.{no_analog, no_alarm, no_limits, no_parame
 
 // 42H: cells in mV, temperatures as raw words, current in 100 mA (charge positive), module voltage in mV, remaining and total in mAh.
 #[repr(C)]
-#[derive(Drop)]
+#[derive(Clone, Copy)]
 pub struct Analog {
     pub cell_count: u8,
     pub cells: [i16; 16],
@@ -25,7 +27,7 @@ pub struct Analog {
 
 // 44H: alarm codes and the five status bytes.
 #[repr(C)]
-#[derive(Drop)]
+#[derive(Clone, Copy)]
 pub struct Alarm {
     pub cell_count: u8,
     pub cells: [u8; 16],
@@ -39,7 +41,7 @@ pub struct Alarm {
 
 // 92H: voltage limits in mV, current limits in 100 mA.
 #[repr(C)]
-#[derive(Drop)]
+#[derive(Clone, Copy)]
 pub struct Limits {
     pub charge_voltage: u16,
     pub discharge_voltage: u16,
@@ -51,7 +53,7 @@ pub struct Limits {
 // 47H: the limits that a module holds itself to, of a cell, of charge, of the module and of discharge: voltages in mV (low: alarm, under:
 // protection), temperatures as raw words, currents in 100 mA.
 #[repr(C)]
-#[derive(Drop)]
+#[derive(Clone, Copy)]
 pub struct Parameters {
     pub cell_high_voltage: i16,
     pub cell_low_voltage: i16,
@@ -69,7 +71,7 @@ pub struct Parameters {
 
 // One module: `on` and `link_fault` are 0 or 1.
 #[repr(C)]
-#[derive(Drop)]
+#[derive(Clone, Copy)]
 pub struct Module {
     pub adr: u8,
     pub on: u8,

@@ -1,9 +1,11 @@
 // The refusals of the box: one name for each number of the paper's table.
 
+#![tactic(auto)]
+
 ghost use Rattle.std.specs.Prelude.{◌≡◌};
 ghost use Rattle.refusal.specs.Number.{number};
 
-#[derive(Drop)]
+#[derive(Clone, Copy)]
 pub enum Refusal {
     // frames and the receiver
     TooLong,

@@ -23,7 +23,7 @@ use Rattle.record.specs.Infos.{Front, command, some_analog, some_alarm, analog_g
 use Rattle.parts.specs.declared.front.Taken.{Taken}
 use Rattle.record.specs.Nothing.{no_maker}
 use Rattle.parts.specs.Took.{paper, taken}
-use Rattle.parts.proofs.front.Answers.{when-taken, when-refused}
+use Rattle.parts.proofs.front.Answered.{when-taken, when-refused}
 use Rattle.parts.specs.Groups.{no_places, grouped}
 use Rattle.table.specs.declared.Table.{Table}
 use Rattle.table.specs.Table.{members, count_on}

@@ -12,7 +12,7 @@ use table::Table;
 
 // What was asked; Command is ignored with 47H, 4FH and 51H.
 #[repr(C)]
-#[derive(Drop)]
+#[derive(Clone, Copy)]
 pub struct Question {
     pub adr: u8,
     pub cid2: u8,
@@ -20,7 +20,7 @@ pub struct Question {
 }
 
 // Whether INFO is to be read, or the refusal, with the place of the first character that isn't hex where that is why.
-#[derive(Drop)]
+#[derive(Clone, Copy)]
 pub enum Entry {
     Open,
     Refused(Refusal),

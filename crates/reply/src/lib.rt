@@ -1,5 +1,7 @@
 // The reply reader: what a stretch that answers a question says of the table's records.
 
+#![tactic(auto)]
+
 pub mod gate;
 
 ghost use Rattle.std.specs.Prelude.{◌≡◌};
@@ -19,7 +21,7 @@ use refusal::Refusal;
 use table::Table;
 
 // How a reading went: VER, code and flag, or the refusal, with the place of the first character that isn't hex where that is why.
-#[derive(Drop)]
+#[derive(Clone, Copy)]
 pub enum Outcome {
     Read(u8, u8, u8),
     Refused(Refusal),
@@ -27,7 +29,7 @@ pub enum Outcome {
 }
 
 // That, the 32 bytes of 51H (zeros for every other command), and the table then.
-#[derive(Drop)]
+#[derive(Clone, Copy)]
 pub struct Reading {
     pub outcome: Outcome,
     pub maker: [u8; 32],

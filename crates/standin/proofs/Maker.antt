@@ -1,7 +1,7 @@
 -- A station by value has the 32 bytes of 51H.
-use mathlib.Core.Path.{◌≡◌, sym, ◌∙◌}
+use mathlib.Core.Path.{◌≡◌}
 use mathlib.Core.List.{List}
-use lib.ListN.{length, length-map}
+use lib.ListN.{length}
 use mir.Val.{Val}
 use denote.Laws.{Is}
 use denote.Struct.Laws as laws
@@ -10,4 +10,4 @@ use Rattle.table.specs.contracts.Station as station
 use Rattle.table.proofs.Station.TheLaws as station-laws
 
 pub maker-length : (st : Station) (vs : List Val) → Is station.the_row st vs → length st.maker ≡ 32
-maker-length st vs g = sym (length-map st.maker _) ∙ (laws.owed station.the_type station-laws.the_laws st vs g).1.0.1.0.1
+maker-length st vs g = (laws.owed station.the_type station-laws.the_laws st vs g).1.0.1.0.1

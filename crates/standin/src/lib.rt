@@ -1,5 +1,7 @@
 // The stand-in: its answer to a stretch, over the table by value.
 
+#![tactic(auto)]
+
 mod says;
 
 ghost use Rattle.std.specs.Prelude.{◌≡◌, true, ◌++◌, ◌≤◌, length, drop};
@@ -18,7 +20,7 @@ use refusal::Refusal;
 use table::{Station, Table};
 
 // What the stand-in does: silence, a reply of so many bytes, or a refusal.
-#[derive(Drop)]
+#[derive(Clone, Copy)]
 pub enum Answered {
     Silence,
     Reply(usize),
@@ -26,7 +28,7 @@ pub enum Answered {
 }
 
 // That, and the place of the record that goes off: the table's count, past every record, where none does.
-#[derive(Drop)]
+#[derive(Clone, Copy)]
 pub struct Replied {
     pub answered: Answered,
     pub off: usize,

@@ -11,7 +11,7 @@ use frame::Header;
 use table::{Station, Table};
 
 // What the stand-in says: nothing, or a return code.
-#[derive(Drop)]
+#[derive(Clone, Copy)]
 pub enum Said {
     Silent,
     Code(u8),

@@ -1,5 +1,7 @@
 // The table by value: one to twelve module records in rising ADR, and what is asked of it.
 
+#![tactic(auto)]
+
 pub mod changes;
 pub mod rule;
 
@@ -9,7 +11,7 @@ ghost use Rattle.table.specs.Table.{blank, new_module, members, place_of, has_me
 use record::Module;
 
 // The records that are there are the first `count`.
-#[derive(Drop)]
+#[derive(Clone, Copy)]
 pub struct Table {
     pub count: usize,
     pub modules: [Module; 12],
@@ -17,7 +19,7 @@ pub struct Table {
 
 // What the table holds beside its records: VER, and the 32 bytes of 51H.
 #[repr(C)]
-#[derive(Drop)]
+#[derive(Clone, Copy)]
 pub struct Station {
     pub ver: u8,
     pub maker: [u8; 32],

@@ -1,5 +1,7 @@
 // The listing's texts in a lent buffer: numbers in decimal, lines, a frame's six lines, a refusal's two or three, the two totals.
 
+#![tactic(auto)]
+
 ghost use Rattle.std.specs.Prelude.{◌≡◌, length};
 ghost use Rattle.buffer.specs.Put.{Room, Put};
 ghost use Rattle.texts.specs.Text.{decimal, digits, line};

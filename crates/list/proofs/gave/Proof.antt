@@ -5,7 +5,7 @@ use lib.Signed.{lt_z}
 use mir.Syntax.{w64}
 use mir.Facts.{to_z-of_z}
 use borrow.Author.Rules.{rules}
-use Rattle.list.proofs.Answers.{gave_test}
+use Rattle.list.proofs.Answered.{gave_test}
 use Rattle.list.proofs.gave.Statement.{statement}
 use Rattle.list.proofs.gave.Tie as tie
 

@@ -5,7 +5,7 @@ use lib.Signed.{lt_z}
 use mir.Syntax.{w64}
 use mir.Facts.{to_z-of_z}
 use borrow.Author.Rules.{rules}
-use Rattle.list.proofs.Answers.{failed-test}
+use Rattle.list.proofs.Answered.{failed-test}
 use Rattle.list.proofs.is_whole.Statement.{statement}
 use Rattle.list.proofs.is_whole.Tie as tie
 

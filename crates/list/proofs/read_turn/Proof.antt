@@ -10,7 +10,7 @@ use mir.Facts.{to_z-of_z}
 use borrow.Author.Rules.{rules}
 use Rattle.libc.specs.Io.{Moved}
 use Rattle.listing.specs.Piece.{left as left_of}
-use Rattle.list.proofs.Answers.{moved_more}
+use Rattle.list.proofs.Answered.{moved_more}
 use Rattle.list.proofs.read_turn.Statement.{statement}
 use Rattle.list.proofs.read_turn.Tie as tie
 

@@ -1,0 +1,57 @@
+-- Flag and Command, the record, the end: each return is a stage of the format.
+use mathlib.Core.Path.{ap, ◌∙◌}
+use native.Mathlib.Omega.{arith}
+use borrow.Author.Rules.{rules}
+use Rattle.parts.proofs.front.Stages.{first-refused, first_read, record-refused, left_over, all_found}
+use Rattle.analog.specs.declared.info.AnalogTaken.{AnalogTaken}
+use Rattle.parts.specs.Took.{paper, flagged}
+use Rattle.record.specs.Nothing.{no_analog}
+use Rattle.parts.proofs.reading.Steps.{part-went, part-stopped}
+use Rattle.record.specs.Infos.{command, analog_info}
+use Rattle.record.specs.Analog.{analog}
+use Rattle.record.specs.declared.Analog.{Analog}
+use Rattle.codec.specs.Whole.{ended}
+use Rattle.codec.specs.Both.{◌then◌}
+use Rattle.codec.specs.Codec.{byte}
+use Rattle.hex_chars.proofs.Laws.{bytes-unhexes}
+use Rattle.hex_chars.specs.Hex.{unhexes}
+use Rattle.analog.proofs.info.take_analog.Goals as goal
+
+pub returns-then-next-byte_count : goal.returns-then-next-byte_count
+unfolding analog_info
+returns-then-next-byte_count c =
+    let adr = c.args.adr in
+    let info = c.args.info.now in
+    let p = part-went (byte then command adr) (0, adr) (unhexes info) 0 c.read_front-front.result.reading (c.read_front-front.result.flag, adr) c.read_front-front.ensures (bytes-unhexes info) c.in-Read.is in
+    let q = part-went analog no_analog (unhexes info) c.in-Read.at c.read_analog-found.result.reading c.read_analog-found.result.analog c.read_analog-found.ensures (bytes-unhexes info) c.in-Read-reading2.is in
+    ap (λ (x : AnalogTaken). paper x.taken x.analog) c.no_analog-then-next-byte_count.ensures
+    ∙ left_over no_analog (λ (b : Analog). flagged ((c.read_front-front.result.flag, adr), b)) analog (unhexes info) c.in-Read.at c.in-Read-reading2.next q.get (omega (arith, c.byte_count.ensures))
+    ∙ first_read no_analog flagged (byte then command adr) (λ x. ended analog) (unhexes info) p.get
+
+pub returns-in-Refused : goal.returns-in-Refused
+unfolding analog_info
+returns-in-Refused c =
+    let adr = c.args.adr in
+    let info = c.args.info.now in
+    ap (λ (x : AnalogTaken). paper x.taken x.analog) c.no_analog.ensures
+    ∙ first-refused no_analog flagged (byte then command adr) (λ x. ended analog) (unhexes info) (part-stopped (byte then command adr) (0, adr) (unhexes info) 0 c.read_front-front.result.reading (c.read_front-front.result.flag, adr) c.read_front-front.ensures c.in-Refused.is)
+
+pub returns-in-Refused-reading2 : goal.returns-in-Refused-reading2
+unfolding analog_info
+returns-in-Refused-reading2 c =
+    let adr = c.args.adr in
+    let info = c.args.info.now in
+    let p = part-went (byte then command adr) (0, adr) (unhexes info) 0 c.read_front-front.result.reading (c.read_front-front.result.flag, adr) c.read_front-front.ensures (bytes-unhexes info) c.in-Read.is in
+    ap (λ (x : AnalogTaken). paper x.taken x.analog) c.no_analog-in-Refused-reading2.ensures
+    ∙ record-refused no_analog (λ (b : Analog). flagged ((c.read_front-front.result.flag, adr), b)) analog (unhexes info) c.in-Read.at (part-stopped analog no_analog (unhexes info) c.in-Read.at c.read_analog-found.result.reading c.read_analog-found.result.analog c.read_analog-found.ensures c.in-Refused-reading2.is)
+    ∙ first_read no_analog flagged (byte then command adr) (λ x. ended analog) (unhexes info) p.get
+
+pub returns-else-next-byte_count : goal.returns-else-next-byte_count
+unfolding analog_info
+returns-else-next-byte_count c =
+    let adr = c.args.adr in
+    let info = c.args.info.now in
+    let p = part-went (byte then command adr) (0, adr) (unhexes info) 0 c.read_front-front.result.reading (c.read_front-front.result.flag, adr) c.read_front-front.ensures (bytes-unhexes info) c.in-Read.is in
+    let q = part-went analog no_analog (unhexes info) c.in-Read.at c.read_analog-found.result.reading c.read_analog-found.result.analog c.read_analog-found.ensures (bytes-unhexes info) c.in-Read-reading2.is in
+    all_found no_analog (λ (b : Analog). flagged ((c.read_front-front.result.flag, adr), b)) analog (unhexes info) c.in-Read.at c.in-Read-reading2.next q.get (omega (arith, c.byte_count.ensures))
+    ∙ first_read no_analog flagged (byte then command adr) (λ x. ended analog) (unhexes info) p.get

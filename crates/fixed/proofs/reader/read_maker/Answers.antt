@@ -1,0 +1,30 @@
+-- A list of thirty-two bytes.
+use mathlib.Core.Path.{ap, ◌∙◌}
+use Prim.Native.Nat.{◌-◌}
+use native.Mathlib.Omega.{arith}
+use borrow.Author.Rules.{rules}
+use Rattle.parts.proofs.reading.Steps.{list-went, list-stopped}
+use Rattle.fixed.specs.declared.reader.MakerRead.{MakerRead}
+use Rattle.record.specs.Nothing.{no_maker}
+use Rattle.parts.specs.Readings.{paper}
+use Rattle.record.specs.Texts.{maker}
+use Rattle.codec.proofs.Places.{found, stops}
+use Rattle.codec.specs.Codec.{byte}
+use Rattle.hex_chars.specs.Hex.{unhexes}
+use Rattle.fixed.proofs.reader.read_maker.Goals as goal
+
+pub returns-in-Refused : goal.returns-in-Refused
+unfolding maker
+returns-in-Refused c =
+    let info = c.args.info.now in
+    let place = c.args.at in
+    ap (λ (x : MakerRead). paper x.reading x.maker) c.no_maker.ensures
+    ∙ stops maker no_maker (unhexes info) place (list-stopped byte (unhexes info) place 32 c.fill_bytes-filled.result c.fill_bytes-filled.new.list c.fill_bytes-filled.ensures c.in-Refused.is)
+
+pub returns-in-Read : goal.returns-in-Read
+unfolding maker
+returns-in-Read c =
+    let info = c.args.info.now in
+    let place = c.args.at in
+    let f = list-went byte (unhexes info) place 32 c.fill_bytes-filled.result c.fill_bytes-filled.new.list c.fill_bytes-filled.ensures c.in-Read.is in
+    found maker no_maker (unhexes info) place f.0 (f.1 (omega arith))

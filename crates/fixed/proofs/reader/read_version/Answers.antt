@@ -1,0 +1,30 @@
+-- A list of five bytes.
+use mathlib.Core.Path.{ap, ◌∙◌}
+use Prim.Native.Nat.{◌-◌}
+use native.Mathlib.Omega.{arith}
+use borrow.Author.Rules.{rules}
+use Rattle.parts.proofs.reading.Steps.{list-went, list-stopped}
+use Rattle.fixed.specs.declared.reader.VersionRead.{VersionRead}
+use Rattle.record.specs.Nothing.{no_version}
+use Rattle.parts.specs.Readings.{paper}
+use Rattle.record.specs.Texts.{version}
+use Rattle.codec.proofs.Places.{found, stops}
+use Rattle.codec.specs.Codec.{byte}
+use Rattle.hex_chars.specs.Hex.{unhexes}
+use Rattle.fixed.proofs.reader.read_version.Goals as goal
+
+pub returns-in-Refused : goal.returns-in-Refused
+unfolding version
+returns-in-Refused c =
+    let info = c.args.info.now in
+    let place = c.args.at in
+    ap (λ (x : VersionRead). paper x.reading x.version) c.no_version.ensures
+    ∙ stops version no_version (unhexes info) place (list-stopped byte (unhexes info) place 5 c.fill_bytes-filled.result c.fill_bytes-filled.new.list c.fill_bytes-filled.ensures c.in-Refused.is)
+
+pub returns-in-Read : goal.returns-in-Read
+unfolding version
+returns-in-Read c =
+    let info = c.args.info.now in
+    let place = c.args.at in
+    let f = list-went byte (unhexes info) place 5 c.fill_bytes-filled.result c.fill_bytes-filled.new.list c.fill_bytes-filled.ensures c.in-Read.is in
+    found version no_version (unhexes info) place f.0 (f.1 (omega arith))

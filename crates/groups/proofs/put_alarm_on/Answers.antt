@@ -1,0 +1,22 @@
+-- The record, or nothing.
+use mathlib.Core.List.{List}
+use mathlib.Core.Path.{sym, subst}
+use Prim.Native.Nat.{ℕ, ◌-◌}
+use borrow.Author.Rules.{rules}
+use Rattle.groups.proofs.Texts.{text-on, text-off}
+use Rattle.groups.specs.Texts.{alarm_text}
+use Rattle.buffer.proofs.Puts.{put-none}
+use Rattle.buffer.specs.Put.{Room, Put}
+use Rattle.groups.proofs.put_alarm_on.Goals as goal
+
+pub put_alarm-requires : goal.put_alarm-requires
+put_alarm-requires c = (c.requires.0, subst (Room c.args.out.now c.args.at) (sym (text-on alarm_text c.args.member c.if-member-eq1.true)) c.requires.1)
+
+pub returns-then-member-eq1 : goal.returns-then-member-eq1
+returns-then-member-eq1 c = subst (λ (x : List ℕ). Put c.args.out.now c.args.at x c.put_alarm.new.out c.put_alarm.result) (text-on alarm_text c.args.member c.if-member-eq1.true) c.put_alarm.ensures
+
+pub returns : goal.returns
+returns c =
+    let out = c.args.out.now in
+    let place = c.args.at in
+    subst (λ (x : List ℕ). Put out place x out place) (text-off alarm_text c.args.member c.if-member-eq1.false) (put-none out place)

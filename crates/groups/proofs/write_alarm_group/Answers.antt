@@ -1,0 +1,50 @@
+-- 31, then 32, then flag, FFH and the records.
+use mathlib.Core.List.{[], ◌∷◌}
+use mathlib.Core.Path.{sym, ap, ◌∙◌}
+use Prim.Native.Nat.{◌-◌}
+use native.Mathlib.Omega.{arith}
+use lib.ListN.{length}
+use borrow.Author.Tests.{not-true, not-false}
+use borrow.Author.Rules.{rules}
+use Rattle.groups.proofs.Texts.{alarm-group}
+use Rattle.groups.specs.Groups.{alarms_on}
+use Rattle.table.specs.Rule.{keeps}
+use Rattle.table.specs.Table.{members}
+use Rattle.record.specs.Infos.{alarm_group}
+use Rattle.buffer.proofs.Writers.{writing-fault, writing-short, writing-all}
+use Rattle.buffer.proofs.Puts.{put_then}
+use Rattle.buffer.specs.Put.{Room}
+use Rattle.groups.proofs.write_alarm_group.Goals as goal
+
+pub returns-then-not-keeps_rule : goal.returns-then-not-keeps_rule
+returns-then-not-keeps_rule c =
+    let table = c.args.table in
+    writing-fault 31 (alarm_group.put ((c.args.flag, 255), alarms_on (members table))) c.args.out.now (keeps table) (sym c.keeps_rule.ensures ∙ c.if-not-keeps_rule.true)
+
+pub alarm_group_size-requires : goal.alarm_group_size-requires
+alarm_group_size-requires c = (sym c.keeps_rule.ensures ∙ c.if-not-keeps_rule.false)
+
+pub returns-then-out-alarm_group_size : goal.returns-then-out-alarm_group_size
+returns-then-out-alarm_group_size c =
+    let flag = c.args.flag in
+    let table = c.args.table in
+    writing-short 31 (alarm_group.put ((flag, 255), alarms_on (members table))) c.args.out.now (keeps table) (sym c.keeps_rule.ensures ∙ c.if-not-keeps_rule.false) (omega (arith, ap length (alarm-group flag (members table)), c.alarm_group_size.ensures, c.if-out-alarm_group_size.true))
+
+pub put-at1-requires : goal.put-at1-requires
+put-at1-requires c = record { fits = omega (arith, c.alarm_group_size.ensures, c.if-out-alarm_group_size.false) }
+
+pub put-at2-requires : goal.put-at2-requires
+put-at2-requires c = record { fits = omega (arith, c.alarm_group_size.ensures, c.if-out-alarm_group_size.false, c.put-at1.ensures.end, c.put-at1.auto) }
+
+pub put_alarms-end-requires : goal.put_alarms-end-requires
+put_alarms-end-requires c = ((sym c.keeps_rule.ensures ∙ c.if-not-keeps_rule.false), record { fits = omega (arith, c.alarm_group_size.ensures, c.if-out-alarm_group_size.false, c.put-at1.ensures.end, c.put-at1.auto, c.put-at2.ensures.end, c.put-at2.auto) })
+
+pub returns : goal.returns
+returns c =
+    let out = c.args.out.now in
+    let flag = c.args.flag in
+    let table = c.args.table in
+    let room1 : Room out 0 (flag ∷ []) = record { fits = omega (arith, c.alarm_group_size.ensures, c.if-out-alarm_group_size.false) } in
+    let room2 : Room out 0 (flag ∷ 255 ∷ []) = record { fits = omega (arith, c.alarm_group_size.ensures, c.if-out-alarm_group_size.false) } in
+    writing-all 31 (alarm_group.put ((flag, 255), alarms_on (members table))) out (keeps table) (sym c.keeps_rule.ensures ∙ c.if-not-keeps_rule.false) (omega (arith, ap length (alarm-group flag (members table)), c.alarm_group_size.ensures, c.if-out-alarm_group_size.false)) _ _
+    (rw (alarm-group flag (members table)) (put_then room2 (put_then room1 c.put-at1.ensures c.put-at2.ensures) c.put_alarms-end.ensures))

@@ -1,0 +1,6 @@
+-- The records of zeros with counts of 1, side by side.
+use borrow.Author.Rules.{rules}
+use Rattle.table.proofs.new_module.Goals as goal
+
+pub returns : goal.returns
+returns c = rw (c.zero_analog-analog.ensures, c.zero_alarm-alarm.ensures, c.zero_limits.ensures, c.zero_parameters.ensures)
