@@ -28,6 +28,7 @@ pub enum Entry {
 }
 
 // Whether a byte is a return code of the paper.
+#[tactic(auto, unfolding(crate::specs::Gate::is_return_code))]
 fn is_return_code(code: u8) -> bool
     ensures { result ≡ is_return_code code }
 {
@@ -40,6 +41,7 @@ fn is_return_code(code: u8) -> bool
 }
 
 // Whether a question can be asked: a served command, with ADR as its Command or FFH at the master with 42H or 44H.
+#[tactic(auto, unfolding(crate::specs::Gate::asks))]
 fn is_asked(question: Question) -> bool
     ensures { result ≡ asks question }
 {
@@ -50,6 +52,7 @@ fn is_asked(question: Question) -> bool
 }
 
 // Of a frame: 11, 12, 13, 14.
+#[tactic(auto, unfolding(crate::specs::Gate::frame_gate))]
 fn gate_frame(question: Question, heard: Heard) -> Entry
     ensures { paper result ≡ frame_gate question (words_of heard) }
 {
@@ -75,6 +78,7 @@ fn gate_frame(question: Question, heard: Heard) -> Entry
 }
 
 // 34, 23, then what the judge refuses, then 11 to 14.
+#[tactic(auto, unfolding(crate::specs::Gate::gate))]
 pub fn gate(table: Table, question: Question, heard: Heard) -> Entry
     ensures { paper result ≡ gate (members table) question (words_of heard) }
 {

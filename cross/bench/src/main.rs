@@ -14,7 +14,7 @@ use std::{fs, io};
 
 const USAGE: &str = "\
 usage: bench [option value]..
-  --ours PATH        the program to compare with the others (target/bin/list)
+  --ours PATH        the program to compare with the others (build/list)
   --built DIR        where listing-rust, listing-c and tuned-c are (build/bench)
   --reader PATH      the Python reader (cross/bench/ref/reader.py)
   --captures DIR     where the captures are put (build/bench/captures)
@@ -36,7 +36,7 @@ struct Options {
 
 fn options() -> Result<Options, String> {
     let mut options = Options {
-        ours: "target/bin/list".into(),
+        ours: "build/list".into(),
         built: "build/bench".into(),
         reader: "cross/bench/ref/reader.py".into(),
         captures: "build/bench/captures".into(),

@@ -1,0 +1,30 @@
+-- Refused, or the part is stored in its record.
+use mathlib.Core.Path.{sym, subst}
+use Rattle.reply.proofs.Taking.{one-refused, one-read}
+use Rattle.reply.specs.Read.{took, given, Reads}
+use Rattle.command.specs.declared.Kind.{Kind}
+use Rattle.table.specs.Changes.{replaced, with_parameters}
+use Rattle.table.specs.Table.{members}
+use Rattle.record.specs.Nothing.{no_maker, no_parameters}
+use Rattle.parts.specs.Took.{flag_alone}
+use Rattle.record.specs.Infos.{parameters_info}
+use Rattle.hex_chars.specs.Hex.{unhexes}
+use Rattle.reply.proofs.read_parameters.Goals as goal
+
+pub returns-in-Refused : goal.returns-in-Refused
+unfolding took
+returns-in-Refused c =
+    let ver = c.args.ver in
+    let table = c.args.table in
+    let adr = c.args.adr in
+    let info = c.args.info.now in
+    subst (Reads (given ver (members table) (took Kind.Parameters (members table) adr (unhexes info))) table) (sym c.not_read.ensures) (one-refused no_parameters flag_alone (parameters_info.get (unhexes info)) c.take_parameters-found.result.taken c.take_parameters-found.result.parameters c.take_parameters-found.ensures ver table (λ a. (no_maker, replaced adr (with_parameters a) (members table))) c.in-Refused.why c.in-Refused.is)
+
+pub returns-in-Taken : goal.returns-in-Taken
+unfolding took
+returns-in-Taken c =
+    let ver = c.args.ver in
+    let table = c.args.table in
+    let adr = c.args.adr in
+    let info = c.args.info.now in
+    subst (Reads (given ver (members table) (took Kind.Parameters (members table) adr (unhexes info))) table) (sym c.was_read.ensures) (one-read no_parameters flag_alone (parameters_info.get (unhexes info)) c.take_parameters-found.result.taken c.take_parameters-found.result.parameters c.take_parameters-found.ensures ver table (λ a. (no_maker, replaced adr (with_parameters a) (members table))) c.in-Taken.flag c.in-Taken.is no_maker c.with_parameters-next.result (λ i. (no_maker, c.with_parameters-next.ensures.members_are i)) c.with_parameters-next.ensures.kept)
