@@ -9,8 +9,7 @@ use lib.IntN.{ℤ, pos, negsuc}
 use lib.Signed.{lt_z}
 use borrow.Author.Tests.{lt-ltb, le-ltb}
 use Rattle.buffer.proofs.Lists.{never}
-use Rattle.libc.specs.Io.{Moved}
-use Rattle.list.specs.List.{gave, failed, got}
+use Rattle.list.specs.List.{Moved, gave, failed, got}
 
 pub gave_test : (z : ℤ) → lt_z (pos 0) z ≡ gave z
 gave_test (pos zero) = refl

@@ -2,8 +2,6 @@
 use Rattle.std.specs.Prelude.{◌≡◌, ◌⊎◌, Bool, true, false, cond, ◌&&◌, List, [], ◌++◌, ℕ, zero, suc, ◌≤◌, min, length, take, ℤ, pos, negsuc, ltb, eqb}
 use Rattle.buffer.specs.declared.Written.{Written}
 use Rattle.buffer.specs.declared.Written.TheVariants.{Wrote, Refused}
-use Rattle.io.specs.Counts.{clamp_len}
-use Rattle.libc.specs.Io.{Moved}
 use Rattle.listing.specs.declared.Listing.{Listing}
 use Rattle.listing.specs.declared.Listed.{Listed}
 use Rattle.listing.specs.Stream.{listing_of}
@@ -45,6 +43,16 @@ Pieces true l store piece next store' = Over l store piece next store' []
 Pieces false l store piece next store' = (next ≡ l) × ((last : Listing) × (rest : List ℕ) × Over l store piece last store' rest)
 
 -- ---- a read
+
+-- what a read that is handed n bytes may answer: -1 where it failed, or how many bytes it put at the front of the buffer, at most n
+abbrev pub Moved : ℕ → ℤ → Type 0
+Moved n (pos k) = k ≤ n
+Moved n (negsuc k) = k ≡ 0
+
+-- an answer as a number of bytes, at most so many
+abbrev pub clamp_len : ℤ → ℕ → ℕ
+clamp_len (pos k) most = min k most
+clamp_len (negsuc k) most = 0
 
 -- a read answers how many bytes it put at the front of the buffer, or a negative number where it failed
 abbrev pub gave : ℤ → Bool

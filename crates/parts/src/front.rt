@@ -36,7 +36,8 @@ pub fn read_command(info: &[u8], at: usize, asked: u8) -> Reading
     let Next::Field(given, next) = fields::field(info, at, 1) else {
         return Reading::Refused(Refusal::InfoEnds);
     };
-    if given != asked as u16 {
+    let other = given != asked as u16;
+    if other {
         return Reading::Refused(Refusal::CommandDiffers);
     }
     Reading::Read(next)

@@ -1,5 +1,5 @@
 -- What the types of the structs' fields already give: a limits record, a serial number and a version can always be encoded, and so can each value of a list.
-use mathlib.Core.Path.{◌≡◌, refl, sym, ap, ◌∙◌, subst}
+use mathlib.Core.Path.{◌≡◌, refl}
 use mathlib.Core.List.{List, [], ◌∷◌}
 use mathlib.Core.Bool.{and-true}
 use Prim.Native.Nat.{ℕ, zero, suc, ◌<◌, ◌≤◌}

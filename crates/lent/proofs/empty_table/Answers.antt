@@ -1,7 +1,6 @@
 -- Twelve times the blank record.
 use mathlib.Core.Path.{ap}
 use lib.ListN.{replicate}
-use borrow.Author.Rules.{rules}
 use Rattle.record.specs.declared.Module.{Module}
 use Rattle.lent.proofs.empty_table.Goals as goal
 

@@ -1,6 +1,5 @@
 -- Below the places, or not.
 use borrow.Author.Tests.{lt-ltb, le-ltb}
-use borrow.Author.Rules.{rules}
 use Rattle.lent.proofs.least.Goals as goal
 
 pub returns-then-count-places : goal.returns-then-count-places

@@ -1,5 +1,5 @@
 -- One turn puts record i in its place; at the end all that have a place are there.
-use Rattle.std.proofs.Common.{◌≡◌, ◌∙◌, sym, ap, ℕ, ◌<◌, ◌≤◌, length, get_or, arith, add-one}
+use Rattle.std.proofs.Common.{◌∙◌, sym, ap, ◌<◌, length, get_or, arith, add-one}
 use Rattle.table.specs.declared.Table.{Table}
 use Rattle.table.proofs.Members.{nil}
 use Rattle.lent.proofs.Loaded.{placed, part, none_yet, one_in, all_in, least-is}

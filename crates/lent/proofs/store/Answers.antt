@@ -1,5 +1,5 @@
 -- One turn puts record i over the one there; at the end no other has a place.
-use Rattle.std.proofs.Common.{◌≡◌, ◌∙◌, sym, ap, ℕ, List, ◌<◌, ◌≤◌, length, set, take, get_or, arith, add-one}
+use Rattle.std.proofs.Common.{◌∙◌, sym, ap, ℕ, List, length, set, take, get_or, arith, add-one}
 use Rattle.record.specs.declared.Module.{Module}
 use Rattle.lent.specs.Loaded.{over}
 use Rattle.table.proofs.Members.{nil}
@@ -15,8 +15,7 @@ loop-i-preserved c =
     let row = c.args.table.now in
     let ms = c.args.from.modules in
     let most = least-of (length row) c.args.count c.least-n.result c.least-n.ensures in
-    let long = twelve c.args.from _ c.well_formed.1.0 in
-    (
+    let long = twelve c.args.from _ c.well_formed.1.0 in (
       omega arith,
       ap (λ (l : List Module). set l c.loop-i.i (get_or ms c.loop-i.i nil)) c.loop-i.invariant.1
           ∙ set_first row ms c.args.count c.loop-i.i nil (omega (arith, most)) (omega (arith, most, long))

@@ -1,6 +1,5 @@
 -- The product fits in 32 bits.
 use mathlib.Core.Path.{ap, ◌∙◌, subst⁻¹}
-use Prim.Native.Nat.{◌*◌}
 use lib.IntN.{ℤ, pos, ◌*ℤ◌}
 use mir.Facts.{to_z-of_z}
 use mir.Val.{to_z, of_z, SFits}

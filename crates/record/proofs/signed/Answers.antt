@@ -1,6 +1,5 @@
 -- Words from 8000H up are 65536 more than the number.
 use mir.Facts.{sfits_to_z}
-use borrow.Author.Rules.{rules}
 use Rattle.record.proofs.Sixteen.{as32, as16, back16, below-zero}
 use Rattle.record.proofs.signed.Goals as goal
 

@@ -1,6 +1,5 @@
 -- The word of a number below zero is 65536 more.
 use mathlib.Core.Path.{sym, ap, ◌∙◌}
-use Prim.Native.Nat.{◌+◌}
 use lib.Signed.{lt_z}
 use lib.IntN.{ℤ, pos, nat_abs, ◌+ℤ◌}
 use mir.Facts.{to_z-of_z, Fits-of_z}

@@ -1,6 +1,5 @@
 -- One byte, and the test.
 use lib.ListN.{drop}
-use borrow.Author.Rules.{rules}
 use Rattle.parts.proofs.front.Stages.{command-differs, command-is}
 use Rattle.parts.proofs.reading.Steps.{field-went, field-ended}
 use Rattle.record.specs.Infos.{command}
@@ -18,13 +17,13 @@ returns-in_default c =
     let e1 = field-ended byte (unhexes info) place c.field.result c.field.ensures c.in_default.is in
     stops (command asked) asked (unhexes info) place (rw e1)
 
-pub returns-then-given-asked : goal.returns-then-given-asked
-returns-then-given-asked c =
+pub returns-then-other : goal.returns-then-other
+returns-then-other c =
     let info = c.args.info.now in
     let place = c.args.at in
     let asked = c.args.asked in
     let w1 = field-went byte (unhexes info) place c.field.result c.field.ensures (bytes-unhexes info) c.in-Field.is in
-    stops (command asked) asked (unhexes info) place (command-differs asked (drop place (unhexes info)) w1.get c.if-given-asked.true)
+    stops (command asked) asked (unhexes info) place (command-differs asked (drop place (unhexes info)) w1.get c.if-other.true)
 
 pub returns : goal.returns
 returns c =
@@ -32,4 +31,4 @@ returns c =
     let place = c.args.at in
     let asked = c.args.asked in
     let w1 = field-went byte (unhexes info) place c.field.result c.field.ensures (bytes-unhexes info) c.in-Field.is in
-    found (command asked) asked (unhexes info) place (command-is asked (drop place (unhexes info)) w1.get c.if-given-asked.false) w1.place
+    found (command asked) asked (unhexes info) place (command-is asked (drop place (unhexes info)) w1.get c.if-other.false) w1.place

@@ -1,7 +1,6 @@
 -- The flag, then Command.
 use mathlib.Core.Path.{ap, ◌∙◌}
 use lib.Dec.{ltb→lt}
-use borrow.Author.Rules.{rules}
 use Rattle.parts.specs.declared.front.FrontRead.{FrontRead}
 use Rattle.parts.proofs.reading.Steps.{field-went, field-ended, part-went, part-stopped}
 use Rattle.parts.specs.Readings.{paper as paper_read}

@@ -1,6 +1,5 @@
 -- i words have been read; a turn reads one more.
 use mathlib.Core.Path.{◌≡◌, refl, sym, ap, ◌∙◌}
-use Prim.Native.Nat.{◌-◌}
 use native.Mathlib.Omega.{arith}
 use lib.ListN.{length, drop}
 use lib.IntN.{ℤ}
@@ -10,7 +9,7 @@ use mir.Facts.{to_z-of_z}
 use mir.Syntax.{w16}
 use Rattle.codec.specs.Numbers.{word, signed}
 use Rattle.parts.proofs.reading.Steps.{field-went, field-ended}
-use Rattle.codec.proofs.Rows.{Filled, filled_none, filled_more, filled-stop, filled-all}
+use Rattle.codec.proofs.Rows.{filled_none, filled_more, filled-stop, filled-all}
 use Rattle.codec.specs.Codec.{got}
 use Rattle.hex_chars.proofs.Laws.{bytes-unhexes}
 use Rattle.hex_chars.specs.Hex.{unhexes}

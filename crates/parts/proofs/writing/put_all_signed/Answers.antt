@@ -1,7 +1,7 @@
 -- i values have been put; a turn puts one more.
 use mathlib.Core.List.{List}
 use mathlib.Core.Path.{◌≡◌, refl, ap, ◌∙◌, subst}
-use Prim.Native.Nat.{zero-le, ℕ, ◌-◌, ◌≤◌}
+use Prim.Native.Nat.{zero-le, ℕ}
 use native.Mathlib.Omega.{arith}
 use lib.Seq.{take-length}
 use lib.ListN.{get_or, length, take}

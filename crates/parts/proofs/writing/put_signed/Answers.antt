@@ -1,10 +1,9 @@
 -- The word of the number.
 use mathlib.Core.Path.{ap, ◌∙◌, subst}
-use Prim.Native.Nat.{ℕ, ◌-◌}
+use Prim.Native.Nat.{ℕ}
 use mir.Facts.{to_z-of_z}
 use mir.Val.{of_z}
 use mir.Syntax.{w16}
-use borrow.Author.Rules.{rules}
 use Rattle.codec.specs.Numbers.{word}
 use Rattle.buffer.specs.Put.{Put}
 use Rattle.parts.proofs.writing.put_signed.Goals as goal

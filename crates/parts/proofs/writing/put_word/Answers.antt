@@ -1,7 +1,5 @@
 -- The high byte, then the low one.
-use Prim.Native.Nat.{◌-◌}
 use native.Mathlib.Omega.{arith}
-use borrow.Author.Rules.{rules}
 use Rattle.buffer.proofs.Puts.{put_then}
 use Rattle.parts.proofs.writing.put_word.Goals as goal
 
