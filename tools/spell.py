@@ -61,9 +61,10 @@ def main():
             every[alias].add(f)
             words.add(alias)
     for f in files("crates/*/src/**/*.rt"):
-        for alias in re.findall(r"ghost use .* as ([a-z]\w*)", open(f).read()):
-            every[alias].add(f)
-            words.add(alias)
+        for line in re.findall(r"ghost use .*", open(f).read()):
+            for alias in re.findall(r" as ([a-z]\w*)", line):
+                every[alias].add(f)
+                words.add(alias)
     renamed = {}
     for name in sorted(words):
         if not re.fullmatch(r"[a-z][A-Za-z0-9_'-]*", name):

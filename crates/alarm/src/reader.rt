@@ -68,7 +68,8 @@ fn read_cell_codes(info: &[u8], at: usize) -> CellCodes
     if count < 1 {
         return no_cell_codes(Refusal::CountOutOfRange);
     }
-    if count > 16 {
+    let too_many = count > 16;
+    if too_many {
         return no_cell_codes(Refusal::CountOutOfRange);
     }
     let m = count as usize;

@@ -36,7 +36,8 @@ fn all_codes(list: &[u8]) -> bool
 {
     let mut i: usize = 0;
     while i < list.len() {
-        if !record::is_alarm_code(list[i]) {
+        let other = !record::is_alarm_code(list[i]);
+        if other {
             return false;
         }
         i += 1;

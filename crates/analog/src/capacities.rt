@@ -98,7 +98,8 @@ fn read_items_4(info: &[u8], at: usize, remaining: u16) -> CapacitiesRead
     if total != 65535 {
         return no_capacities(Refusal::CapacitiesBreakRule);
     }
-    if total2 <= 65000 {
+    let low = total2 <= 65000;
+    if low {
         return no_capacities(Refusal::CapacitiesBreakRule);
     }
     CapacitiesRead {
@@ -122,7 +123,8 @@ pub fn read_capacities(info: &[u8], at: usize) -> CapacitiesRead
     if items == 2 {
         return read_items_2(info, at2, remaining);
     }
-    if items == 4 {
+    let four = items == 4;
+    if four {
         return read_items_4(info, at2, remaining);
     }
     no_capacities(Refusal::ItemsUnknown)

@@ -34,6 +34,7 @@ fn all_zero(list: &[i16]) -> bool
 }
 
 // Whether a count and its list can be written: the count in range, and 0 in the places beyond it.
+#[tactic(auto, using(crate::proofs::writer::Lists::list_tests))]
 fn fine_list(count: u8, list: &[i16]) -> bool
     ensures { result ≡ list_fine count list.now }
 {
@@ -126,6 +127,7 @@ pub fn put_analog(out: &mut [u8], at: usize, analog: Analog) -> usize
 }
 
 // How many bytes a 42H record has.
+#[tactic(auto, using(std::proofs::lemmas::Bool::Decides::nat_tests))]
 pub fn analog_size(analog: Analog) -> usize
     ensures { result ≡ analog_size analog.cell_count analog.temperature_count analog.total }
 {

@@ -52,7 +52,8 @@ pub fn write_parameters(out: &mut [u8], flag: u8, given: Module) -> Written
     if !record::is_address(given.adr) {
         return Written::Refused(Refusal::NotEncodable);
     }
-    if out.len() < 25 {
+    let short = out.len() < 25;
+    if short {
         return Written::Refused(Refusal::BufferTooShort);
     }
     let at = buffer::put(out, 0, flag);
@@ -82,7 +83,8 @@ pub fn write_limits(out: &mut [u8], given: Module) -> Written
     if !record::is_address(given.adr) {
         return Written::Refused(Refusal::NotEncodable);
     }
-    if out.len() < 10 {
+    let short = out.len() < 10;
+    if short {
         return Written::Refused(Refusal::BufferTooShort);
     }
     let at = buffer::put(out, 0, given.adr);
@@ -108,7 +110,8 @@ pub fn write_serial(out: &mut [u8], given: Module) -> Written
     if !record::is_address(given.adr) {
         return Written::Refused(Refusal::NotEncodable);
     }
-    if out.len() < 17 {
+    let short = out.len() < 17;
+    if short {
         return Written::Refused(Refusal::BufferTooShort);
     }
     let at = buffer::put(out, 0, given.adr);
@@ -134,7 +137,8 @@ pub fn write_version(out: &mut [u8], given: Module) -> Written
     if !record::is_address(given.adr) {
         return Written::Refused(Refusal::NotEncodable);
     }
-    if out.len() < 6 {
+    let short = out.len() < 6;
+    if short {
         return Written::Refused(Refusal::BufferTooShort);
     }
     let at = buffer::put(out, 0, given.adr);

@@ -248,7 +248,8 @@ fn list_all(
     let mut now = Listing::new();
     loop {
         let turn = read_turn(rt, input, now, buffer, store, out);
-        if !goes_on(turn) {
+        let is_last = !goes_on(turn);
+        if is_last {
             return turn;
         }
         now = turn.next;

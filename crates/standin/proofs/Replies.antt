@@ -2,7 +2,7 @@
 use mathlib.Core.Path.{◌≡◌, refl, sym, ap, ◌∙◌}
 use mathlib.Core.Bool.{Bool, true, false, cond, not}
 use mathlib.Core.List.{List, [], ◌++◌}
-use Prim.Native.Nat.{ℕ, ◌+◌, ◌≤◌, ◌<◌}
+use Prim.Native.Nat.{ℕ, ◌≤◌, ◌<◌}
 use native.Mathlib.Omega.{arith}
 use lib.ListN.{length, take, drop}
 use lib.Seq.{take_at}
@@ -96,3 +96,6 @@ module _ (keeps : Bool) (none : ℕ) (st : Station) (ms : List Module) (stretch 
 pub says-silent : (none : ℕ) (st : Station) (ms : List Module) (w : Words) (out : List ℕ) → leaves silence none out ≡ says none st ms w Silent out
 unfolding says
 says-silent none st ms w out = refl
+
+-- a buffer too short
+pub ruleset too_short = (answer-short)

@@ -6,7 +6,6 @@ use Rattle.table.specs.Table.{is_on, has_fault, is_master, member_at, any_fault}
 use Rattle.command.specs.Command.{kind_of, terms_of}
 use Rattle.command.specs.Heard.{Words, number_of}
 use Rattle.standin.specs.declared.says.Said.{Said}
-use Rattle.standin.specs.declared.says.Said.TheVariants as Said
 
 -- nothing, or a return code
 pub data Speech : Type 0 where

@@ -113,6 +113,7 @@ fn reply(station: Station, table: Table, heard: Heard, code: u8, out: &mut [u8])
 }
 
 // The answer to a stretch, the bytes between SOI and CR: 32 for a buffer below 4,112 bytes, 31, then silence or a reply.
+#[tactic(auto, using(crate::proofs::Replies::too_short))]
 pub fn answer(station: Station, table: Table, stretch: &[u8], out: &mut [u8]) -> Replied
     ensures { Answers (answer (keeps table) table.count station (members table) stretch.now out.old) result out.new }
 {

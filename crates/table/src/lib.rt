@@ -70,7 +70,8 @@ fn size(table: Table) -> usize
     ensures { result ≡ length (members table) }
 {
     let count = table.count;
-    if 12 < count {
+    let full = 12 < count;
+    if full {
         return 12;
     }
     count

@@ -25,7 +25,8 @@ pub fn keeps_rule(table: Table) -> bool
     ensures { result ≡ keeps table }
 {
     let count = table.count;
-    if count < 1 {
+    let none = count < 1;
+    if none {
         return false;
     }
     if 12 < count {

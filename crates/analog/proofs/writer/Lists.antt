@@ -4,8 +4,8 @@ use mathlib.Core.Bool.{true, false, ◌&&◌}
 use mathlib.Core.List.{List}
 use Prim.Native.Nat.{ℕ, suc, ◌+◌, ◌*◌, ◌-◌, ◌<◌, ◌≤◌}
 use native.Mathlib.Omega.{arith}
-use lib.ListN.{length, take, drop}
-use lib.Seq.{length-take-le}
+use lib.ListN.{length, take, drop, length-drop}
+use lib.Seq.{length-take-le, take-length}
 use lib.IntN.{ℤ, pos, negsuc}
 use lib.Dec.{leb}
 use mir.Syntax.{w16}
@@ -44,6 +44,9 @@ module _ (n : ℕ) (l : List ℤ) where
   unfolding list_fine
   list-rest g h = rw (le-leb 1 n g, le-leb n (length l) h)
 
+  pub list-rest-taken : 1 ≤ n → n ≤ length l → every is0 (take (length l - n) (drop n l)) ≡ list_fine n l
+  list-rest-taken g h = ap (every is0) (ap (λ (k : ℕ). take k (drop n l)) (sym (length-drop n l)) ∙ take-length (drop n l)) ∙ list-rest g h
+
   -- in the format
   module _ (K : ℕ) where
     pub measured-fine : n < 256 → Signeds K l → (measured K).ok (n, l) ≡ list_fine n l
@@ -62,3 +65,6 @@ module _ (n : ℕ) (l : List ℤ) where
         let p = measured-parts e in
         let t = length-take-le n l (omega (arith, p.0, p.1)) in
         omega (arith, t, row-length signed 2 (λ z. refl) (take n l))
+
+-- what the tests of a count and its list decide
+pub ruleset list_tests = (list-low, list-high, list-rest-taken)

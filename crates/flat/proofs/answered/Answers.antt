@@ -1,7 +1,6 @@
 -- Each case is one clause of the definition.
 use mathlib.Core.Path.{sym, ap, ◌∙◌}
 use Prim.Native.Nat.{ℕ}
-use borrow.Author.Rules.{rules}
 use Rattle.flat.specs.Flat.{answered_of}
 use Rattle.standin.specs.declared.Answered.{Answered}
 use Rattle.standin.specs.Answer as Answer

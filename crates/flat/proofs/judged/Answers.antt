@@ -1,7 +1,6 @@
 -- Each case is one clause of the definition.
 use mathlib.Core.Path.{sym, ap, ◌∙◌}
 use Prim.Native.Nat.{ℕ}
-use borrow.Author.Rules.{rules}
 use Rattle.flat.specs.Flat.{event_of}
 use Rattle.frame.specs.declared.Judged.{Judged}
 use Rattle.frame.specs.Judge as Judge

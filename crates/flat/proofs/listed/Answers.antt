@@ -1,5 +1,4 @@
 -- Field by field; the listing and the writer's answer are what `listing` and `written` make of them.
-use borrow.Author.Rules.{rules}
 use Rattle.flat.proofs.listed.Goals as goal
 
 pub returns : goal.returns

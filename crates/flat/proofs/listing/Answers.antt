@@ -1,5 +1,4 @@
 -- Field by field; the receiver is what `receiver` makes of it.
-use borrow.Author.Rules.{rules}
 use Rattle.flat.proofs.listing.Goals as goal
 
 pub returns : goal.returns

@@ -1,6 +1,5 @@
 -- Each case is one clause of the definition.
 use mathlib.Core.Path.{sym, ap}
-use borrow.Author.Rules.{rules}
 use Rattle.flat.specs.Flat.{flat_receiver}
 use Rattle.receiver.specs.declared.Receiver.{Receiver}
 use Rattle.flat.proofs.receiver.Goals as goal

@@ -1,7 +1,6 @@
 -- Each case is one clause of the definition.
 use mathlib.Core.Path.{sym, ap, ◌∙◌}
 use Prim.Native.Nat.{ℕ}
-use borrow.Author.Rules.{rules}
 use Rattle.flat.specs.Flat.{reply_of}
 use Rattle.reply.specs.declared.Outcome.{Outcome}
 use Rattle.reply.specs.Read as Read

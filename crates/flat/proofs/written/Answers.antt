@@ -1,7 +1,6 @@
 -- Each case is one clause of the definition.
 use mathlib.Core.Path.{sym, ap, ◌∙◌}
 use Prim.Native.Nat.{ℕ}
-use borrow.Author.Rules.{rules}
 use Rattle.flat.specs.Flat.{written_of}
 use Rattle.buffer.specs.declared.Written.{Written}
 use Rattle.buffer.specs.Writing as Writing

@@ -1,18 +1,9 @@
 -- The lengths of the first i records have been added.
-use mathlib.Core.List.{List}
-use mathlib.Core.Path.{◌≡◌, ap, ◌∙◌}
-use Prim.Native.Nat.{ℕ, ◌+◌, ◌-◌, ◌*◌, ◌≤◌}
-use native.Mathlib.Omega.{arith}
-use lib.Seq.{take-length}
-use lib.ListN.{length, take, get_or, length-append}
-use Rattle.record.specs.declared.Module.{Module}
-use Rattle.groups.proofs.Texts.{all_more, all_none}
-use Rattle.groups.specs.Texts.{text_on, text_of_all, alarm_text}
-use Rattle.table.proofs.rule.Fine.{keeps-parts, count-is, place-fine}
-use Rattle.table.proofs.Members.{nil}
-use Rattle.table.proofs.Twelve.{twelve}
+use mathlib.Core.Path.{◌≡◌}
+use Prim.Native.Nat.{◌+◌, ◌-◌, ◌*◌, ◌≤◌}
+use lib.ListN.{length, take}
+use Rattle.groups.specs.Texts.{text_of_all, alarm_text}
 use Rattle.table.specs.Table.{members}
-use Rattle.alarm.proofs.writer.Whole.{size}
 use Rattle.groups.proofs.alarm_group_size.Given as goal
 
 abbrev pub invariant-loop-i : goal.invariant-loop-i

@@ -1,7 +1,7 @@
 -- The lengths of the first i records have been added.
 use mathlib.Core.List.{List}
 use mathlib.Core.Path.{◌≡◌, ap, ◌∙◌}
-use Prim.Native.Nat.{ℕ, ◌+◌, ◌-◌, ◌*◌, ◌≤◌}
+use Prim.Native.Nat.{ℕ, ◌+◌}
 use native.Mathlib.Omega.{arith}
 use lib.Seq.{take-length}
 use lib.ListN.{length, take, get_or, length-append}
@@ -12,7 +12,6 @@ use Rattle.table.proofs.rule.Fine.{keeps-parts, count-is, place-fine}
 use Rattle.table.proofs.Members.{nil}
 use Rattle.table.proofs.Twelve.{twelve}
 use Rattle.table.specs.Table.{members}
-use Rattle.analog.proofs.writer.Whole.{size}
 use Rattle.groups.proofs.analog_group_size.Goals as goal
 
 pub loop-i-init : goal.loop-i-init

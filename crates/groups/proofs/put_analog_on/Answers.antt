@@ -1,8 +1,7 @@
 -- The record, or nothing.
 use mathlib.Core.List.{List}
 use mathlib.Core.Path.{sym, subst}
-use Prim.Native.Nat.{ℕ, ◌-◌}
-use borrow.Author.Rules.{rules}
+use Prim.Native.Nat.{ℕ}
 use Rattle.groups.proofs.Texts.{text-on, text-off}
 use Rattle.groups.specs.Texts.{analog_text}
 use Rattle.buffer.proofs.Puts.{put-none}

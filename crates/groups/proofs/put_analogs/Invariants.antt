@@ -1,18 +1,10 @@
 -- The records of the first i members have been put.
-use mathlib.Core.List.{List}
-use mathlib.Core.Path.{◌≡◌, refl, ap, ◌∙◌, subst}
-use Prim.Native.Nat.{ℕ, ◌+◌, ◌-◌, ◌≤◌}
-use native.Mathlib.Omega.{arith}
-use lib.Seq.{take-length}
-use lib.ListN.{length, take, get_or, length-append}
-use Rattle.groups.proofs.Texts.{all_more, all_none, first_short}
-use Rattle.groups.specs.Texts.{text_on, text_of_all, analog_text}
-use Rattle.table.proofs.rule.Fine.{keeps-parts, count-is, place-fine}
-use Rattle.table.proofs.Members.{nil}
-use Rattle.table.proofs.Twelve.{twelve}
+use mathlib.Core.Path.{◌≡◌}
+use Prim.Native.Nat.{◌-◌, ◌≤◌}
+use lib.ListN.{length, take}
+use Rattle.groups.specs.Texts.{text_of_all, analog_text}
 use Rattle.table.specs.Table.{members}
-use Rattle.buffer.proofs.Puts.{put_then, put-none}
-use Rattle.buffer.specs.Put.{Room, Put}
+use Rattle.buffer.specs.Put.{Put}
 use Rattle.groups.proofs.put_analogs.Given as goal
 
 abbrev pub invariant-loop-i : goal.invariant-loop-i

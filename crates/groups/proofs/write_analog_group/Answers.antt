@@ -1,11 +1,8 @@
 -- 31, then 32, then flag, FFH and the records.
 use mathlib.Core.List.{[], ◌∷◌}
 use mathlib.Core.Path.{sym, ap, ◌∙◌}
-use Prim.Native.Nat.{◌-◌}
 use native.Mathlib.Omega.{arith}
 use lib.ListN.{length}
-use borrow.Author.Tests.{not-true, not-false}
-use borrow.Author.Rules.{rules}
 use Rattle.groups.proofs.Texts.{analog-group}
 use Rattle.groups.specs.Groups.{analogs_on}
 use Rattle.table.specs.Rule.{keeps}

@@ -19,21 +19,21 @@ loop-turn-init g c =
 pub read_turn-turn-requires : goal.read_turn-turn-requires
 read_turn-turn-requires g c = (c.loop-turn.invariant.0, omega arith)
 
-pub returns-then-not-goes_on : goal.returns-then-not-goes_on
-returns-then-not-goes_on g c =
+pub returns-then-is_last : goal.returns-then-is_last
+returns-then-is_last g c =
     let sofar = c.loop-turn.invariant.1 in
     record {
       sofar = turned c.loop-turn.now c.read_turn-turn.result c.loop-turn.store c.read_turn-turn.new.store c.read_turn-turn.new.buffer c.read_turn-turn.ensures c.args.store.now sofar.0 sofar.1 sofar.2;
-      over = sym c.goes_on.ensures ∙ c.if-not-goes_on.true;
+      over = sym c.goes_on-is_last.ensures ∙ c.if-is_last.true;
     }
 
 pub loop-turn-smaller : goal.loop-turn-smaller
-loop-turn-smaller g c = turn-less c.loop-turn.now c.read_turn-turn.result c.loop-turn.store c.read_turn-turn.new.store c.read_turn-turn.new.buffer c.read_turn-turn.ensures (sym c.goes_on.ensures ∙ c.if-not-goes_on.false)
+loop-turn-smaller g c = turn-less c.loop-turn.now c.read_turn-turn.result c.loop-turn.store c.read_turn-turn.new.store c.read_turn-turn.new.buffer c.read_turn-turn.ensures (sym c.goes_on-is_last.ensures ∙ c.if-is_last.false)
 
 pub loop-turn-preserved : goal.loop-turn-preserved
 loop-turn-preserved g c =
     let sofar = c.loop-turn.invariant.1 in
-    let more = goes-on-more c.read_turn-turn.result (sym c.goes_on.ensures ∙ c.if-not-goes_on.false) in
+    let more = goes-on-more c.read_turn-turn.result (sym c.goes_on-is_last.ensures ∙ c.if-is_last.false) in
     let s = turned c.loop-turn.now c.read_turn-turn.result c.loop-turn.store c.read_turn-turn.new.store c.read_turn-turn.new.buffer c.read_turn-turn.ensures c.args.store.now sofar.0 sofar.1 sofar.2 in (
       more.1,
       (s.bytes, s.few, subst (λ (x : List ℕ). Over fresh c.args.store.now s.bytes c.read_turn-turn.result.next x []) (s.same more.0) s.listed),

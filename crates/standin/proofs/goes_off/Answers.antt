@@ -1,6 +1,5 @@
 -- An accepted 95H, or not.
 use mathlib.Core.Path.{sym, ◌∙◌}
-use borrow.Author.Rules.{rules}
 use Rattle.standin.specs.Answer.{off_for}
 use Rattle.standin.proofs.goes_off.Goals as goal
 

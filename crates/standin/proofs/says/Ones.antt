@@ -2,7 +2,6 @@
 use mathlib.Core.Path.{◌≡◌, refl, sym, ◌∙◌}
 use Rattle.buffer.proofs.Lists.{never}
 use Rattle.standin.specs.declared.says.Said.{Said}
-use Rattle.standin.specs.declared.says.Said.TheVariants as Said
 use Rattle.standin.specs.Says.{Speech, paper}
 
 said-injective : (a b : Said) → paper a ≡ paper b → a ≡ b

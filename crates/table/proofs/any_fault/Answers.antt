@@ -1,12 +1,8 @@
 -- What was seen and what is left decide together.
-use mathlib.Core.Bool.{◌||◌}
-use mathlib.Core.Path.{◌≡◌, refl, ◌∙◌}
-use Prim.Native.Nat.{◌-◌, ◌≤◌}
+use mathlib.Core.Path.{refl, ◌∙◌}
 use native.Mathlib.Omega.{arith}
-use lib.ListN.{drop}
 use Rattle.table.proofs.Members.{at-most-twelve, fault-turn, fault-end}
 use Rattle.table.proofs.Twelve.{twelve}
-use Rattle.table.specs.Table.{members, any_fault}
 use Rattle.table.proofs.any_fault.Goals as goal
 
 pub loop-i-init : goal.loop-i-init

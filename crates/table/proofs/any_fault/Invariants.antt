@@ -1,11 +1,8 @@
 -- What was seen and what is left decide together.
 use mathlib.Core.Bool.{◌||◌}
-use mathlib.Core.Path.{◌≡◌, refl, ◌∙◌}
+use mathlib.Core.Path.{◌≡◌}
 use Prim.Native.Nat.{◌-◌, ◌≤◌}
-use native.Mathlib.Omega.{arith}
 use lib.ListN.{drop}
-use Rattle.table.proofs.Members.{at-most-twelve, fault-turn, fault-end}
-use Rattle.table.proofs.Twelve.{twelve}
 use Rattle.table.specs.Table.{members, any_fault}
 use Rattle.table.proofs.any_fault.Given as goal
 

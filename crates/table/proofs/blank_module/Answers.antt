@@ -1,5 +1,4 @@
 -- The four records of zeros, side by side.
-use borrow.Author.Rules.{rules}
 use Rattle.record.specs.Nothing.{no_serial, no_version}
 use Rattle.table.proofs.blank_module.Goals as goal
 

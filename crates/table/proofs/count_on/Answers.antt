@@ -1,11 +1,9 @@
 -- Those that were counted and those that are left are all.
-use mathlib.Core.Path.{◌≡◌}
-use Prim.Native.Nat.{◌+◌, ◌-◌, ◌≤◌}
 use native.Mathlib.Omega.{arith}
-use lib.ListN.{drop, get_or}
+use lib.ListN.{get_or}
 use Rattle.table.proofs.Members.{nil, one-small, at-most-twelve, on-turn, on-end}
 use Rattle.table.proofs.Twelve.{twelve}
-use Rattle.table.specs.Table.{members, is_on, count_on}
+use Rattle.table.specs.Table.{is_on}
 use Rattle.table.proofs.count_on.Goals as goal
 
 pub loop-i-init : goal.loop-i-init

@@ -1,11 +1,8 @@
 -- Those that were counted and those that are left are all.
 use mathlib.Core.Path.{◌≡◌}
 use Prim.Native.Nat.{◌+◌, ◌-◌, ◌≤◌}
-use native.Mathlib.Omega.{arith}
-use lib.ListN.{drop, get_or}
-use Rattle.table.proofs.Members.{nil, one-small, at-most-twelve, on-turn, on-end}
-use Rattle.table.proofs.Twelve.{twelve}
-use Rattle.table.specs.Table.{members, is_on, count_on}
+use lib.ListN.{drop}
+use Rattle.table.specs.Table.{members, count_on}
 use Rattle.table.proofs.count_on.Given as goal
 
 abbrev pub invariant-loop-i : goal.invariant-loop-i

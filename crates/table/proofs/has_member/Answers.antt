@@ -1,6 +1,4 @@
 -- Its place is before the end, or not.
-use Prim.Native.Nat.{◌-◌}
-use borrow.Author.Rules.{rules}
 use Rattle.table.specs.Table.{has_member}
 use Rattle.table.proofs.has_member.Goals as goal
 

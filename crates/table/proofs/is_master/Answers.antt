@@ -1,6 +1,5 @@
 -- The two tests are those of the definition.
 use mathlib.Core.Path.{refl}
-use Prim.Native.Nat.{◌-◌}
 use Rattle.table.specs.Table.{is_master}
 use Rattle.table.proofs.is_master.Goals as goal
 

@@ -1,8 +1,6 @@
 -- It is at its place, or nowhere.
 use mathlib.Core.Path.{◌∙◌}
-use Prim.Native.Nat.{◌-◌}
 use native.Mathlib.Omega.{arith}
-use borrow.Author.Rules.{rules}
 use Rattle.table.proofs.Members.{at-most-twelve, is_member, no_member}
 use Rattle.table.proofs.Twelve.{twelve}
 use Rattle.table.proofs.member_at.Goals as goal

@@ -1,5 +1,4 @@
 -- The records of zeros with counts of 1, side by side.
-use borrow.Author.Rules.{rules}
 use Rattle.table.proofs.new_module.Goals as goal
 
 pub returns : goal.returns

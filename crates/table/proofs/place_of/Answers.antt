@@ -1,11 +1,7 @@
 -- No member before i has the ADR.
-use mathlib.Core.Path.{◌≡◌}
-use Prim.Native.Nat.{◌+◌, ◌-◌, ◌≤◌}
 use native.Mathlib.Omega.{arith}
-use lib.ListN.{drop}
 use Rattle.table.proofs.Members.{at-most-twelve, place_here, place-on, place_end}
 use Rattle.table.proofs.Twelve.{twelve}
-use Rattle.table.specs.Table.{members, place_of}
 use Rattle.table.proofs.place_of.Goals as goal
 
 pub loop-i-init : goal.loop-i-init

@@ -1,8 +1,5 @@
 -- Zeros beside the refusal.
-use borrow.Author.Rules.{rules}
 use Rattle.parts.specs.declared.front.Taken.{Taken}
-use Rattle.parts.specs.Took.{taken}
-use Rattle.record.specs.Alarm.{alarm}
 use Rattle.alarm.proofs.info.no_alarm.Goals as goal
 
 pub returns : goal.returns

@@ -1,7 +1,5 @@
 -- Zeros beside the refusal.
 use lib.ListN.{replicate}
-use borrow.Author.Rules.{rules}
-use Rattle.parts.specs.Took.{taken}
 use Rattle.parts.specs.declared.front.Taken.{Taken}
 use Rattle.alarm.proofs.info.no_alarms.Goals as goal
 

@@ -1,10 +1,9 @@
 -- The records so far stand in front of zeros; a turn reads one more.
 use mathlib.Core.List.{List}
 use mathlib.Core.Path.{sym, ap, ◌∙◌, subst}
-use Prim.Native.Nat.{◌-◌, ◌<◌}
+use Prim.Native.Nat.{◌<◌}
 use native.Mathlib.Omega.{arith}
 use lib.ListN.{length, replicate}
-use borrow.Author.Rules.{rules}
 use Rattle.parts.proofs.front.Turns.{Listed, listed-none, listed-end, listed-places, listed-over, listed-stop, listed_more, moves-on}
 use Rattle.parts.specs.Groups.{records, places, no_places}
 use Rattle.alarm.specs.declared.info.AlarmsTaken.{AlarmsTaken}

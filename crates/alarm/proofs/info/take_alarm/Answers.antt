@@ -1,7 +1,6 @@
 -- Flag and Command, the record, the end: each return is a stage of the format.
 use mathlib.Core.Path.{ap, ◌∙◌}
 use native.Mathlib.Omega.{arith}
-use borrow.Author.Rules.{rules}
 use Rattle.parts.proofs.front.Stages.{first-refused, first_read, record-refused, left_over, all_found}
 use Rattle.alarm.specs.declared.info.AlarmTaken.{AlarmTaken}
 use Rattle.parts.specs.Took.{paper, flagged}

@@ -1,17 +1,8 @@
 -- i codes have been read; a turn reads one more.
-use mathlib.Core.Bool.{true, false}
-use mathlib.Core.Path.{◌≡◌, refl, sym, ◌∙◌}
 use Prim.Native.Nat.{◌-◌}
-use native.Mathlib.Omega.{arith}
 use lib.ListN.{length}
-use lib.Dec.{ltb→lt}
-use borrow.Author.Tests.{not-true, not-false}
-use borrow.Author.Rules.{rules}
-use Rattle.record.specs.Alarm.{is_alarm_code, code}
-use Rattle.parts.proofs.reading.Steps.{field-went, field-ended}
-use Rattle.codec.proofs.Rows.{Filled, filled_none, filled_more, filled-stop, filled-all}
-use Rattle.codec.specs.Codec.{byte}
-use Rattle.hex_chars.proofs.Laws.{bytes-unhexes}
+use Rattle.record.specs.Alarm.{code}
+use Rattle.codec.proofs.Rows.{Filled}
 use Rattle.hex_chars.specs.Hex.{unhexes}
 use Rattle.alarm.proofs.reader.fill_codes.Given as goal
 

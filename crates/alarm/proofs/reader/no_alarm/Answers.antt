@@ -1,5 +1,4 @@
 -- Zeros beside the refusal.
-use borrow.Author.Rules.{rules}
 use Rattle.parts.specs.declared.reading.Reading.{Reading}
 use Rattle.alarm.proofs.reader.no_alarm.Goals as goal
 

@@ -1,7 +1,5 @@
 -- Part by part, as the format says; the first that is refused decides.
 use mathlib.Core.Path.{ap, ◌∙◌}
-use Prim.Native.Nat.{◌-◌}
-use borrow.Author.Rules.{rules}
 use Rattle.alarm.specs.declared.reader.AlarmRead.{AlarmRead}
 use Rattle.record.specs.Nothing.{no_codes, no_singles, no_alarm, no_status}
 use Rattle.record.specs.Alarm.{codes, singles, alarm}

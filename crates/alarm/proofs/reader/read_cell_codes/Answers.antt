@@ -1,10 +1,8 @@
 -- The count, then as many codes as it says, in front of zeros.
 use mathlib.Core.Path.{◌≡◌, sym, ap, ◌∙◌}
-use Prim.Native.Nat.{◌-◌}
 use native.Mathlib.Omega.{arith}
 use lib.Seq.{length-take-le}
 use lib.ListN.{take, length}
-use borrow.Author.Rules.{rules}
 use Rattle.alarm.specs.declared.reader.CellCodes.{CellCodes}
 use Rattle.record.specs.Nothing.{no_codes}
 use Rattle.record.specs.Alarm.{code, codes}
@@ -36,14 +34,14 @@ returns-then-count-lt1 c =
     ap (λ (x : CellCodes). paper x.reading (x.count, x.cells)) c.no_cell_codes-then-count-lt1.ensures
     ∙ stops (codes 16) (0, no_codes 16) (unhexes info) place (count_low code zero_byte 16 (unhexes info) place c.in-Field.count c.in-Field.at1 w1.get c.if-count-lt1.true)
 
-pub returns-then-count-gt16 : goal.returns-then-count-gt16
+pub returns-then-too_many : goal.returns-then-too_many
 unfolding codes
-returns-then-count-gt16 c =
+returns-then-too_many c =
     let info = c.args.info.now in
     let place = c.args.at in
     let w1 = field-went byte (unhexes info) place c.field.result c.field.ensures (bytes-unhexes info) c.in-Field.is in
-    ap (λ (x : CellCodes). paper x.reading (x.count, x.cells)) c.no_cell_codes-then-count-gt16.ensures
-    ∙ stops (codes 16) (0, no_codes 16) (unhexes info) place (count-high code zero_byte 16 (unhexes info) place c.in-Field.count c.in-Field.at1 w1.get c.if-count-lt1.false c.if-count-gt16.true)
+    ap (λ (x : CellCodes). paper x.reading (x.count, x.cells)) c.no_cell_codes-then-too_many.ensures
+    ∙ stops (codes 16) (0, no_codes 16) (unhexes info) place (count-high code zero_byte 16 (unhexes info) place c.in-Field.count c.in-Field.at1 w1.get c.if-count-lt1.false c.if-too_many.true)
 
 pub slice_bounds-fill_codes-end : goal.slice_bounds-fill_codes-end
 slice_bounds-fill_codes-end c = sym (length-take-le c.in-Field.count (no_codes 16) (omega arith))
@@ -57,7 +55,7 @@ returns-in-Refused c =
     let z = length-take-le c.in-Field.count (no_codes 16) (omega arith) in
     ap (λ (x : CellCodes). paper x.reading (x.count, x.cells)) c.no_cell_codes-in-Refused.ensures
     ∙ stops (codes 16) (0, no_codes 16) (unhexes info) place
-    (count-stops code zero_byte 16 (unhexes info) place c.in-Field.count c.in-Field.at1 w1.get c.if-count-lt1.false c.if-count-gt16.false z (list-stopped code (unhexes info) c.in-Field.at1 (length (take c.in-Field.count (no_codes 16))) c.fill_codes-filled.result c.fill_codes-filled.new.list c.fill_codes-filled.ensures c.in-Refused.is))
+    (count-stops code zero_byte 16 (unhexes info) place c.in-Field.count c.in-Field.at1 w1.get c.if-count-lt1.false c.if-too_many.false z (list-stopped code (unhexes info) c.in-Field.at1 (length (take c.in-Field.count (no_codes 16))) c.fill_codes-filled.result c.fill_codes-filled.new.list c.fill_codes-filled.ensures c.in-Refused.is))
 
 pub returns-in-Read : goal.returns-in-Read
 unfolding codes
@@ -68,4 +66,4 @@ returns-in-Read c =
     let z = length-take-le c.in-Field.count (no_codes 16) (omega arith) in
     let f = list-went code (unhexes info) c.in-Field.at1 (length (take c.in-Field.count (no_codes 16))) c.fill_codes-filled.result c.fill_codes-filled.new.list c.fill_codes-filled.ensures c.in-Read.is in
     let k : length c.fill_codes-filled.new.list ≡ c.in-Field.count = omega (arith, z) in
-    found (codes 16) (0, no_codes 16) (unhexes info) place (count-goes code zero_byte 16 (unhexes info) place c.in-Field.count c.in-Field.at1 w1.get c.if-count-lt1.false c.if-count-gt16.false z k f.0) (f.1 (omega (arith, z, c.if-count-lt1.false)))
+    found (codes 16) (0, no_codes 16) (unhexes info) place (count-goes code zero_byte 16 (unhexes info) place c.in-Field.count c.in-Field.at1 w1.get c.if-count-lt1.false c.if-too_many.false z k f.0) (f.1 (omega (arith, z, c.if-count-lt1.false)))

@@ -1,10 +1,7 @@
 -- Three bytes, each tested as it is read.
 use mathlib.Core.Bool.{true, false}
 use mathlib.Core.Path.{◌≡◌, sym, ap, ◌∙◌}
-use Prim.Native.Nat.{◌-◌}
 use lib.Dec.{ltb→lt}
-use borrow.Author.Tests.{not-true, not-false}
-use borrow.Author.Rules.{rules}
 use Rattle.alarm.specs.declared.reader.Singles.{Singles}
 use Rattle.record.specs.Nothing.{no_singles}
 use Rattle.record.specs.Alarm.{is_alarm_code, singles}

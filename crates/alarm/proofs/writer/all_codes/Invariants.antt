@@ -1,12 +1,8 @@
 -- What was seen is codes; what is left decides.
-use mathlib.Core.Path.{◌≡◌, refl, sym, ◌∙◌}
-use Prim.Native.Nat.{zero-le, ◌-◌, ◌≤◌}
-use native.Mathlib.Omega.{arith}
+use mathlib.Core.Path.{◌≡◌}
+use Prim.Native.Nat.{◌-◌, ◌≤◌}
 use lib.ListN.{length, drop}
-use borrow.Author.Tests.{not-true, not-false}
-use borrow.Author.Rules.{rules}
 use Rattle.record.specs.Alarm.{is_alarm_code}
-use Rattle.codec.proofs.Everys.{every-on, every-off, every-end}
 use Rattle.codec.specs.Counted.{every}
 use Rattle.alarm.proofs.writer.all_codes.Given as goal
 

@@ -1,13 +1,11 @@
 -- What was seen is 0; what is left decides.
-use mathlib.Core.Path.{◌≡◌, refl, sym, ◌∙◌}
-use Prim.Native.Nat.{zero-le, ◌-◌, ◌≤◌}
+use mathlib.Core.Path.{refl, sym, ◌∙◌}
+use Prim.Native.Nat.{zero-le}
 use native.Mathlib.Omega.{arith}
-use lib.ListN.{get_or, length, drop}
+use lib.ListN.{get_or}
 use borrow.Author.Tests.{eq-eqb, ne_eqb}
-use borrow.Author.Rules.{rules}
 use Rattle.alarm.specs.List.{is_zero}
 use Rattle.codec.proofs.Everys.{every-on, every-off, every-end}
-use Rattle.codec.specs.Counted.{every}
 use Rattle.alarm.proofs.writer.all_zero.Goals as goal
 
 pub loop-i-init : goal.loop-i-init

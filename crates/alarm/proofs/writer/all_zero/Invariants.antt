@@ -1,12 +1,8 @@
 -- What was seen is 0; what is left decides.
-use mathlib.Core.Path.{◌≡◌, refl, sym, ◌∙◌}
-use Prim.Native.Nat.{zero-le, ◌-◌, ◌≤◌}
-use native.Mathlib.Omega.{arith}
-use lib.ListN.{get_or, length, drop}
-use borrow.Author.Tests.{eq-eqb, ne_eqb}
-use borrow.Author.Rules.{rules}
+use mathlib.Core.Path.{◌≡◌}
+use Prim.Native.Nat.{◌-◌, ◌≤◌}
+use lib.ListN.{length, drop}
 use Rattle.alarm.specs.List.{is_zero}
-use Rattle.codec.proofs.Everys.{every-on, every-off, every-end}
 use Rattle.codec.specs.Counted.{every}
 use Rattle.alarm.proofs.writer.all_zero.Given as goal
 

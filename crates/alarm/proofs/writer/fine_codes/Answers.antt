@@ -3,8 +3,6 @@ use mathlib.Core.Path.{◌≡◌, sym, ap, ◌∙◌}
 use Prim.Native.Nat.{ℕ, ◌-◌}
 use lib.Seq.{take-length, length-take-le}
 use lib.ListN.{length-drop, length, drop, take}
-use borrow.Author.Tests.{not-true, not-false}
-use borrow.Author.Rules.{rules}
 use Rattle.alarm.proofs.writer.Lists.{codes-low, codes-high, codes-not, codes-rest}
 use Rattle.alarm.specs.List.{is_zero}
 use Rattle.codec.specs.Counted.{every}

@@ -1,9 +1,7 @@
 -- Part by part, each after the one before.
 use mathlib.Core.List.{[], ◌∷◌, ◌++◌}
 use mathlib.Core.Path.{sym}
-use Prim.Native.Nat.{◌+◌, ◌-◌}
 use native.Mathlib.Omega.{arith}
-use borrow.Author.Rules.{rules}
 use Rattle.alarm.proofs.writer.Whole.{parts, text}
 use Rattle.alarm.proofs.writer.Lists.{format-parts}
 use Rattle.alarm.specs.List.{codes_text}

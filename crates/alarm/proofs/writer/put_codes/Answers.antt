@@ -1,10 +1,8 @@
 -- The count, then the codes after it.
 use mathlib.Core.List.{[], ◌∷◌}
 use mathlib.Core.Path.{sym}
-use Prim.Native.Nat.{◌-◌}
 use lib.Seq.{length-take-le}
 use lib.ListN.{take}
-use borrow.Author.Rules.{rules}
 use Rattle.alarm.specs.List.{codes_text}
 use Rattle.buffer.proofs.Puts.{room-rest, put_then, room-first}
 use Rattle.alarm.proofs.writer.put_codes.Goals as goal

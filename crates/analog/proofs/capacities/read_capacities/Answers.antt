@@ -1,10 +1,9 @@
 -- The items say what follows.
 use mathlib.Core.Bool.{true, false}
 use mathlib.Core.Path.{ap, ◌∙◌}
-use Prim.Native.Nat.{ℕ, ◌-◌}
+use Prim.Native.Nat.{ℕ}
 use lib.ListN.{drop}
 use borrow.Author.Tests.{ne_eqb}
-use borrow.Author.Rules.{rules}
 use Rattle.analog.proofs.capacities.Threes.{after_items_lem}
 use Rattle.analog.specs.declared.capacities.CapacitiesRead.{CapacitiesRead}
 use Rattle.record.specs.Nothing.{no_capacities}
@@ -48,15 +47,15 @@ returns-then-items-eq2 c =
     ∙ goes_on capacities no_capacities (unhexes info) place (after_items c.in-Field.remaining false (drop c.in-Field-field.at2 (unhexes info)))
     (after_items_lem (unhexes info) place c.in-Field.at1 c.in-Field-field.at2 c.in-Field.remaining false w1.get (w2.get ∙ ap (λ (v : ℕ). got v (drop c.in-Field-field.at2 (unhexes info))) c.if-items-eq2.true))
 
-pub returns-then-items-eq4 : goal.returns-then-items-eq4
-returns-then-items-eq4 c =
+pub returns-then-four : goal.returns-then-four
+returns-then-four c =
     let info = c.args.info.now in
     let place = c.args.at in
     let w1 = field-went word (unhexes info) place c.field.result c.field.ensures (bytes-unhexes info) c.in-Field.is in
     let w2 = field-went byte (unhexes info) c.in-Field.at1 c.field-2.result c.field-2.ensures (bytes-unhexes info) c.in-Field-field.is in
     c.read_items_4.ensures
     ∙ goes_on capacities no_capacities (unhexes info) place (after_items c.in-Field.remaining true (drop c.in-Field-field.at2 (unhexes info)))
-    (after_items_lem (unhexes info) place c.in-Field.at1 c.in-Field-field.at2 c.in-Field.remaining true w1.get (w2.get ∙ ap (λ (v : ℕ). got v (drop c.in-Field-field.at2 (unhexes info))) c.if-items-eq4.true))
+    (after_items_lem (unhexes info) place c.in-Field.at1 c.in-Field-field.at2 c.in-Field.remaining true w1.get (w2.get ∙ ap (λ (v : ℕ). got v (drop c.in-Field-field.at2 (unhexes info))) c.if-four.true))
 
 pub returns : goal.returns
 unfolding capacities
@@ -66,4 +65,4 @@ returns c =
     let w1 = field-went word (unhexes info) place c.field.result c.field.ensures (bytes-unhexes info) c.in-Field.is in
     let w2 = field-went byte (unhexes info) c.in-Field.at1 c.field-2.result c.field-2.ensures (bytes-unhexes info) c.in-Field-field.is in
     ap (λ (x : CapacitiesRead). paper x.reading (x.remaining, (x.total, x.cycles))) c.no_capacities-2.ensures
-    ∙ stops capacities no_capacities (unhexes info) place (rw (w1.get, w2.get, ne_eqb c.in-Field-field.items 2 c.if-items-eq2.false, ne_eqb c.in-Field-field.items 4 c.if-items-eq4.false))
+    ∙ stops capacities no_capacities (unhexes info) place (rw (w1.get, w2.get, ne_eqb c.in-Field-field.items 2 c.if-items-eq2.false, ne_eqb c.in-Field-field.items 4 c.if-four.false))

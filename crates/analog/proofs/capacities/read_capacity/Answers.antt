@@ -1,6 +1,4 @@
 -- A word and one byte more.
-use Prim.Native.Nat.{◌-◌}
-use borrow.Author.Rules.{rules}
 use Rattle.codec.proofs.Places.{found, stops}
 use Rattle.codec.specs.Numbers.{three, word}
 use Rattle.parts.proofs.reading.Steps.{field-went, field-ended}

@@ -1,10 +1,8 @@
 -- Two fields, then the rule.
 use mathlib.Core.Bool.{false}
 use mathlib.Core.Path.{ap, ◌∙◌}
-use Prim.Native.Nat.{◌-◌}
 use lib.ListN.{drop}
 use borrow.Author.Tests.{le-leb, lt-leb}
-use borrow.Author.Rules.{rules}
 use Rattle.analog.specs.declared.capacities.CapacitiesRead.{CapacitiesRead}
 use Rattle.record.specs.Nothing.{no_capacities}
 use Rattle.analog.specs.Capacity.{after_items}

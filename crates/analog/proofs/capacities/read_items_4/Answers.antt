@@ -1,10 +1,8 @@
 -- Four fields, then the rule.
 use mathlib.Core.Bool.{true}
 use mathlib.Core.Path.{ap, ◌∙◌}
-use Prim.Native.Nat.{◌-◌}
 use lib.ListN.{drop}
 use borrow.Author.Tests.{ne_eqb, eq-eqb, lt-ltb, le-ltb}
-use borrow.Author.Rules.{rules}
 use Rattle.analog.proofs.capacities.Threes.{capacity-went, capacity-ended}
 use Rattle.analog.specs.declared.capacities.CapacitiesRead.{CapacitiesRead}
 use Rattle.record.specs.Nothing.{no_capacities}
@@ -85,9 +83,9 @@ returns-then-total c =
     ap (λ (x : CapacitiesRead). paper x.reading (x.remaining, (x.total, x.cycles))) c.no_capacities-then-total.ensures
     ∙ stops-in no_capacities (unhexes info) (after_items remaining true (drop place (unhexes info))) (rw (w1.get, w2.get, w3.get, w4.get, eq-eqb remaining 65535 c.if-remaining-ne65535.false, ne_eqb c.in-Field.total 65535 c.if-total.true))
 
-pub returns-then-total2-le65000 : goal.returns-then-total2-le65000
+pub returns-then-low : goal.returns-then-low
 unfolding after_items
-returns-then-total2-le65000 c =
+returns-then-low c =
     let info = c.args.info.now in
     let place = c.args.at in
     let remaining = c.args.remaining in
@@ -95,8 +93,8 @@ returns-then-total2-le65000 c =
     let w2 = field-went word (unhexes info) c.in-Field.at1 c.field-2.result c.field-2.ensures (bytes-unhexes info) c.in-Field-field.is in
     let w3 = capacity-went (unhexes info) c.in-Field-field.at2 c.read_capacity.result c.read_capacity.ensures (bytes-unhexes info) c.in-Field-read_capacity.is in
     let w4 = capacity-went (unhexes info) c.in-Field-read_capacity.at3 c.read_capacity-2.result c.read_capacity-2.ensures (bytes-unhexes info) c.in-Field-read_capacity-2.is in
-    ap (λ (x : CapacitiesRead). paper x.reading (x.remaining, (x.total, x.cycles))) c.no_capacities-then-total2-le65000.ensures
-    ∙ stops-in no_capacities (unhexes info) (after_items remaining true (drop place (unhexes info))) (rw (w1.get, w2.get, w3.get, w4.get, eq-eqb remaining 65535 c.if-remaining-ne65535.false, eq-eqb c.in-Field.total 65535 c.if-total.false, le-ltb 65000 c.in-Field-read_capacity-2.total2 c.if-total2-le65000.true))
+    ap (λ (x : CapacitiesRead). paper x.reading (x.remaining, (x.total, x.cycles))) c.no_capacities-then-low.ensures
+    ∙ stops-in no_capacities (unhexes info) (after_items remaining true (drop place (unhexes info))) (rw (w1.get, w2.get, w3.get, w4.get, eq-eqb remaining 65535 c.if-remaining-ne65535.false, eq-eqb c.in-Field.total 65535 c.if-total.false, le-ltb 65000 c.in-Field-read_capacity-2.total2 c.if-low.true))
 
 pub returns : goal.returns
 unfolding after_items
@@ -108,4 +106,4 @@ returns c =
     let w2 = field-went word (unhexes info) c.in-Field.at1 c.field-2.result c.field-2.ensures (bytes-unhexes info) c.in-Field-field.is in
     let w3 = capacity-went (unhexes info) c.in-Field-field.at2 c.read_capacity.result c.read_capacity.ensures (bytes-unhexes info) c.in-Field-read_capacity.is in
     let w4 = capacity-went (unhexes info) c.in-Field-read_capacity.at3 c.read_capacity-2.result c.read_capacity-2.ensures (bytes-unhexes info) c.in-Field-read_capacity-2.is in
-    found_in no_capacities (unhexes info) (after_items remaining true (drop place (unhexes info))) (rw (w1.get, w2.get, w3.get, w4.get, eq-eqb remaining 65535 c.if-remaining-ne65535.false, eq-eqb c.in-Field.total 65535 c.if-total.false, lt-ltb 65000 c.in-Field-read_capacity-2.total2 c.if-total2-le65000.false)) w4.place
+    found_in no_capacities (unhexes info) (after_items remaining true (drop place (unhexes info))) (rw (w1.get, w2.get, w3.get, w4.get, eq-eqb remaining 65535 c.if-remaining-ne65535.false, eq-eqb c.in-Field.total 65535 c.if-total.false, lt-ltb 65000 c.in-Field-read_capacity-2.total2 c.if-low.false)) w4.place

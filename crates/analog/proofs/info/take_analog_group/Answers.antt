@@ -1,6 +1,5 @@
 -- Flag and FFH, then the records.
 use mathlib.Core.Path.{ap, ◌∙◌}
-use borrow.Author.Rules.{rules}
 use Rattle.parts.specs.Groups.{records, no_places, grouped}
 use Rattle.analog.specs.declared.info.AnalogsTaken.{AnalogsTaken}
 use Rattle.parts.proofs.front.Stages.{first-refused, first_read}

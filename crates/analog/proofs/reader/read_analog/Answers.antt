@@ -1,6 +1,5 @@
 -- Part by part, as the format says; the first that is refused decides.
 use mathlib.Core.Path.{ap, ◌∙◌}
-use Prim.Native.Nat.{◌-◌}
 use mir.Facts.{to_z-of_z}
 use mir.Syntax.{w16}
 use borrow.Author.Rules.{rules}

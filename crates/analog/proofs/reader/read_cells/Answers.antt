@@ -1,10 +1,8 @@
 -- The count, then as many words as it says, in front of zeros.
 use mathlib.Core.Path.{◌≡◌, sym, ap, ◌∙◌}
-use Prim.Native.Nat.{◌-◌}
 use native.Mathlib.Omega.{arith}
 use lib.Seq.{length-take-le}
 use lib.ListN.{take, length}
-use borrow.Author.Rules.{rules}
 use Rattle.analog.specs.declared.reader.Cells.{Cells}
 use Rattle.record.specs.Nothing.{no_list}
 use Rattle.record.specs.Analog.{measured}

@@ -1,8 +1,8 @@
 -- What was seen is 0; what is left decides.
-use mathlib.Core.Path.{◌≡◌, refl, sym, ◌∙◌}
-use Prim.Native.Nat.{zero-le, ◌-◌, ◌≤◌}
+use mathlib.Core.Path.{refl, sym, ◌∙◌}
+use Prim.Native.Nat.{zero-le}
 use native.Mathlib.Omega.{arith}
-use lib.ListN.{get_or, length, drop}
+use lib.ListN.{get_or}
 use lib.IntN.{pos}
 use borrow.Author.Rules.{rules}
 use mir.Val.{SFits}
@@ -10,7 +10,6 @@ use mir.Syntax.{w16}
 use Rattle.analog.proofs.writer.Lists.{is0-yes, is0-no}
 use Rattle.record.specs.Zeros.{is0}
 use Rattle.codec.proofs.Everys.{every-on, every-off, every-end}
-use Rattle.codec.specs.Counted.{every}
 use Rattle.analog.proofs.writer.all_zero.Goals as goal
 
 pub loop-i-init : goal.loop-i-init

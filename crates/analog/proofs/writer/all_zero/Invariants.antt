@@ -1,15 +1,8 @@
 -- What was seen is 0; what is left decides.
-use mathlib.Core.Path.{◌≡◌, refl, sym, ◌∙◌}
-use Prim.Native.Nat.{zero-le, ◌-◌, ◌≤◌}
-use native.Mathlib.Omega.{arith}
-use lib.ListN.{get_or, length, drop}
-use lib.IntN.{pos}
-use borrow.Author.Rules.{rules}
-use mir.Val.{SFits}
-use mir.Syntax.{w16}
-use Rattle.analog.proofs.writer.Lists.{is0-yes, is0-no}
+use mathlib.Core.Path.{◌≡◌}
+use Prim.Native.Nat.{◌-◌, ◌≤◌}
+use lib.ListN.{length, drop}
 use Rattle.record.specs.Zeros.{is0}
-use Rattle.codec.proofs.Everys.{every-on, every-off, every-end}
 use Rattle.codec.specs.Counted.{every}
 use Rattle.analog.proofs.writer.all_zero.Given as goal
 

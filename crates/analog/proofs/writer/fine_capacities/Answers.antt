@@ -1,5 +1,4 @@
 -- By total, as the rule says.
-use Prim.Native.Nat.{◌-◌}
 use borrow.Author.Tests.{le-leb, lt-leb}
 use Rattle.analog.proofs.writer.fine_capacities.Goals as goal
 

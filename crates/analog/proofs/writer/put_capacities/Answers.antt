@@ -1,8 +1,6 @@
 -- With items 2 or with items 4, field after field.
 use mathlib.Core.List.{◌++◌}
-use Prim.Native.Nat.{◌+◌, ◌-◌}
 use native.Mathlib.Omega.{arith}
-use borrow.Author.Rules.{rules}
 use Rattle.analog.proofs.writer.Amounts.{short-text, long-text, short-fine, long-fine}
 use Rattle.codec.specs.Numbers.{three, word}
 use Rattle.buffer.proofs.Puts.{room-rest, put_then, room-first}

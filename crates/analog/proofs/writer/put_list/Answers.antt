@@ -1,10 +1,8 @@
 -- The count, then the row after it.
 use mathlib.Core.List.{[], ◌∷◌}
 use mathlib.Core.Path.{sym}
-use Prim.Native.Nat.{◌-◌}
 use lib.Seq.{length-take-le}
 use lib.ListN.{take}
-use borrow.Author.Rules.{rules}
 use Rattle.analog.specs.List.{list_text}
 use Rattle.codec.specs.Row.{row_put}
 use Rattle.codec.specs.Numbers.{signed}

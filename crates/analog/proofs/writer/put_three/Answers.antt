@@ -1,7 +1,5 @@
 -- A word, then one byte more.
-use Prim.Native.Nat.{◌-◌}
 use native.Mathlib.Omega.{arith}
-use borrow.Author.Rules.{rules}
 use Rattle.buffer.proofs.Puts.{put_then}
 use Rattle.analog.proofs.writer.put_three.Goals as goal
 

@@ -1,5 +1,4 @@
 -- Zeros beside the refusal.
-use borrow.Author.Rules.{rules}
 use Rattle.parts.specs.declared.front.Taken.{Taken}
 use Rattle.fixed.proofs.info.no_limits.Goals as goal
 

@@ -1,7 +1,6 @@
 -- The 32 bytes, the end: each return is a stage of the format.
 use mathlib.Core.Path.{ap, ◌∙◌}
 use native.Mathlib.Omega.{arith}
-use borrow.Author.Rules.{rules}
 use Rattle.parts.proofs.front.Stages.{record-refused, left_over, all_found}
 use Rattle.fixed.specs.declared.info.MakerTaken.{MakerTaken}
 use Rattle.parts.specs.Took.{paper, bare}

@@ -1,7 +1,6 @@
 -- No byte may be there.
 use mathlib.Core.Path.{sym, ap}
 use native.Mathlib.Omega.{arith}
-use borrow.Author.Rules.{rules}
 use Rattle.parts.proofs.front.Stages.{over, no_more}
 use Rattle.record.specs.Infos.{empty_info}
 use Rattle.parts.specs.Took.{taken, bare}

@@ -2,7 +2,6 @@
 use mathlib.Core.Path.{ap, ◌∙◌}
 use native.Mathlib.Omega.{arith}
 use lib.Dec.{ltb→lt}
-use borrow.Author.Rules.{rules}
 use Rattle.parts.proofs.front.Stages.{first-refused, first_read, record-refused, left_over, all_found}
 use Rattle.fixed.specs.declared.info.ParametersTaken.{ParametersTaken}
 use Rattle.parts.specs.Took.{paper, flag_alone}

@@ -3,7 +3,6 @@ use mathlib.Core.List.{List}
 use mathlib.Core.Path.{ap, ◌∙◌}
 use Prim.Native.Nat.{ℕ}
 use native.Mathlib.Omega.{arith}
-use borrow.Author.Rules.{rules}
 use Rattle.parts.proofs.front.Stages.{first-refused, first_read, record-refused, left_over, all_found}
 use Rattle.fixed.specs.declared.info.SerialTaken.{SerialTaken}
 use Rattle.parts.specs.Took.{paper, unflagged}

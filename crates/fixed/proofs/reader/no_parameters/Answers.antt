@@ -1,5 +1,4 @@
 -- Zeros beside the refusal.
-use borrow.Author.Rules.{rules}
 use Rattle.parts.specs.declared.reading.Reading.{Reading}
 use Rattle.fixed.proofs.reader.no_parameters.Goals as goal
 

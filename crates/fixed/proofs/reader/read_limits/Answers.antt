@@ -1,6 +1,5 @@
 -- Field by field, as the format says; where one is missing, 16.
 use mathlib.Core.Path.{ap, ◌∙◌}
-use Prim.Native.Nat.{◌-◌}
 use lib.Dec.{ltb→lt}
 use mir.Facts.{to_z-of_z}
 use mir.Syntax.{w16}

@@ -1,8 +1,6 @@
 -- A list of twelve signed words, seen as the record.
 use mathlib.Core.Path.{ap, ◌∙◌}
-use Prim.Native.Nat.{◌-◌}
 use native.Mathlib.Omega.{arith}
-use borrow.Author.Rules.{rules}
 use Rattle.parts.proofs.reading.Steps.{list-went, list-stopped}
 use Rattle.fixed.specs.declared.reader.ParametersRead.{ParametersRead}
 use Rattle.record.specs.declared.Parameters.{Parameters}

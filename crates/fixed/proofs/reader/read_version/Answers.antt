@@ -1,8 +1,6 @@
 -- A list of five bytes.
 use mathlib.Core.Path.{ap, ◌∙◌}
-use Prim.Native.Nat.{◌-◌}
 use native.Mathlib.Omega.{arith}
-use borrow.Author.Rules.{rules}
 use Rattle.parts.proofs.reading.Steps.{list-went, list-stopped}
 use Rattle.fixed.specs.declared.reader.VersionRead.{VersionRead}
 use Rattle.record.specs.Nothing.{no_version}

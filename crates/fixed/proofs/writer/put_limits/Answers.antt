@@ -1,5 +1,4 @@
 -- Field by field, each after the one before.
-use Prim.Native.Nat.{◌-◌}
 use native.Mathlib.Omega.{arith}
 use mir.Facts.{to_z-of_z}
 use mir.Val.{SFits}

@@ -1,6 +1,4 @@
 -- The bytes themselves.
-use Prim.Native.Nat.{◌-◌}
-use borrow.Author.Rules.{rules}
 use Rattle.fixed.proofs.writer.Texts.{version-text}
 use Rattle.fixed.proofs.writer.put_version.Goals as goal
 

@@ -1,9 +1,7 @@
 -- 33, then 32, then Command and the record after it.
 use mathlib.Core.Bool.{◌&&◌}
 use mathlib.Core.Path.{sym, ◌∙◌}
-use Prim.Native.Nat.{◌-◌}
 use native.Mathlib.Omega.{arith}
-use borrow.Author.Tests.{not-true, not-false}
 use mir.Val.{Fits}
 use mir.Syntax.{w8}
 use borrow.Author.Rules.{rules}
@@ -23,20 +21,20 @@ returns-then-not-is_address c =
     let given = c.args.given in
     writing-fault 33 ((limits_info given.adr).put (given.adr, given.limits)) c.args.out.now (is_address given.adr && (limits_info given.adr).ok (given.adr, given.limits)) (not-address given.adr ((limits_info given.adr).ok (given.adr, given.limits)) (sym c.is_address.ensures ∙ c.if-not-is_address.true))
 
-pub returns-then-out-lt10 : goal.returns-then-out-lt10
+pub returns-then-short : goal.returns-then-short
 unfolding limits_info
-returns-then-out-lt10 c =
+returns-then-short c =
     let given = c.args.given in
     let h : Fits w8 given.adr = search rules in
     let z = limits-length given.limits in
     let fine = led given.adr limits given.limits (sym c.is_address.ensures ∙ c.if-not-is_address.false) h.fits (module-limits-ok given _ c.well_formed.1.0) in
-    writing-short 33 ((limits_info given.adr).put (given.adr, given.limits)) c.args.out.now (is_address given.adr && (limits_info given.adr).ok (given.adr, given.limits)) fine (omega (arith, z, c.if-out-lt10.true))
+    writing-short 33 ((limits_info given.adr).put (given.adr, given.limits)) c.args.out.now (is_address given.adr && (limits_info given.adr).ok (given.adr, given.limits)) fine (omega (arith, z, c.if-short.true))
 
 pub put_limits-end-requires : goal.put_limits-end-requires
 unfolding limits
 put_limits-end-requires c =
     let z = limits-length c.args.given.limits in
-    record { fits = omega (arith, z, c.if-out-lt10.false, c.put-at.ensures.end, c.put-at.auto) }
+    record { fits = omega (arith, z, c.if-short.false, c.put-at.ensures.end, c.put-at.auto) }
 
 pub returns : goal.returns
 unfolding limits_info
@@ -45,5 +43,5 @@ returns c =
     let h : Fits w8 given.adr = search rules in
     let z = limits-length given.limits in
     let fine = led given.adr limits given.limits (sym c.is_address.ensures ∙ c.if-not-is_address.false) h.fits (module-limits-ok given _ c.well_formed.1.0) in
-    writing-all 33 ((limits_info given.adr).put (given.adr, given.limits)) c.args.out.now (is_address given.adr && (limits_info given.adr).ok (given.adr, given.limits)) fine (omega (arith, z, c.if-out-lt10.false)) c.put_limits-end.new.out c.put_limits-end.result
-    (put_then (record { fits = omega (arith, c.if-out-lt10.false) }) c.put-at.ensures c.put_limits-end.ensures)
+    writing-all 33 ((limits_info given.adr).put (given.adr, given.limits)) c.args.out.now (is_address given.adr && (limits_info given.adr).ok (given.adr, given.limits)) fine (omega (arith, z, c.if-short.false)) c.put_limits-end.new.out c.put_limits-end.result
+    (put_then (record { fits = omega (arith, c.if-short.false) }) c.put-at.ensures c.put_limits-end.ensures)

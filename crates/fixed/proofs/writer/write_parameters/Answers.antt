@@ -1,9 +1,7 @@
 -- 33, then 32, then the flag and the record after it.
 use mathlib.Core.Bool.{◌&&◌}
 use mathlib.Core.Path.{sym, ◌∙◌}
-use Prim.Native.Nat.{◌-◌}
 use native.Mathlib.Omega.{arith}
-use borrow.Author.Tests.{not-true, not-false}
 use mir.Val.{Fits}
 use mir.Syntax.{w8}
 use borrow.Author.Rules.{rules}
@@ -24,21 +22,21 @@ returns-then-not-is_address c =
     let flag = c.args.flag in
     writing-fault 33 (parameters_info.put (flag, given.parameters)) c.args.out.now (is_address given.adr && parameters_info.ok (flag, given.parameters)) (not-address given.adr (parameters_info.ok (flag, given.parameters)) (sym c.is_address.ensures ∙ c.if-not-is_address.true))
 
-pub returns-then-out-lt25 : goal.returns-then-out-lt25
+pub returns-then-short : goal.returns-then-short
 unfolding parameters_info
-returns-then-out-lt25 c =
+returns-then-short c =
     let given = c.args.given in
     let flag = c.args.flag in
     let h : Fits w8 flag = search rules in
     let z = parameters-length given.parameters in
     let fine = alone-led given.adr parameters given.parameters (sym c.is_address.ensures ∙ c.if-not-is_address.false) flag h.fits (module-parameters-ok given _ c.well_formed.1.1.0) in
-    writing-short 33 (parameters_info.put (flag, given.parameters)) c.args.out.now (is_address given.adr && parameters_info.ok (flag, given.parameters)) fine (omega (arith, z, c.if-out-lt25.true))
+    writing-short 33 (parameters_info.put (flag, given.parameters)) c.args.out.now (is_address given.adr && parameters_info.ok (flag, given.parameters)) fine (omega (arith, z, c.if-short.true))
 
 pub put_parameters-end-requires : goal.put_parameters-end-requires
 unfolding parameters
 put_parameters-end-requires c =
     let z = parameters-length c.args.given.parameters in
-    record { fits = omega (arith, z, c.if-out-lt25.false, c.put-at.ensures.end, c.put-at.auto) }
+    record { fits = omega (arith, z, c.if-short.false, c.put-at.ensures.end, c.put-at.auto) }
 
 pub returns : goal.returns
 unfolding parameters_info
@@ -48,5 +46,5 @@ returns c =
     let h : Fits w8 flag = search rules in
     let z = parameters-length given.parameters in
     let fine = alone-led given.adr parameters given.parameters (sym c.is_address.ensures ∙ c.if-not-is_address.false) flag h.fits (module-parameters-ok given _ c.well_formed.1.1.0) in
-    writing-all 33 (parameters_info.put (flag, given.parameters)) c.args.out.now (is_address given.adr && parameters_info.ok (flag, given.parameters)) fine (omega (arith, z, c.if-out-lt25.false)) c.put_parameters-end.new.out c.put_parameters-end.result
-    (put_then (record { fits = omega (arith, c.if-out-lt25.false) }) c.put-at.ensures c.put_parameters-end.ensures)
+    writing-all 33 (parameters_info.put (flag, given.parameters)) c.args.out.now (is_address given.adr && parameters_info.ok (flag, given.parameters)) fine (omega (arith, z, c.if-short.false)) c.put_parameters-end.new.out c.put_parameters-end.result
+    (put_then (record { fits = omega (arith, c.if-short.false) }) c.put-at.ensures c.put_parameters-end.ensures)

@@ -1,10 +1,8 @@
 -- 33, then 32, then Command and the record after it.
 use mathlib.Core.Bool.{◌&&◌}
 use mathlib.Core.Path.{sym, ap, ◌∙◌}
-use Prim.Native.Nat.{◌-◌}
 use native.Mathlib.Omega.{arith}
 use lib.ListN.{length}
-use borrow.Author.Tests.{not-true, not-false}
 use mir.Val.{Fits}
 use mir.Syntax.{w8}
 use borrow.Author.Rules.{rules}
@@ -24,21 +22,21 @@ returns-then-not-is_address c =
     let given = c.args.given in
     writing-fault 33 ((serial_info given.adr).put (given.adr, given.serial)) c.args.out.now (is_address given.adr && (serial_info given.adr).ok (given.adr, given.serial)) (not-address given.adr ((serial_info given.adr).ok (given.adr, given.serial)) (sym c.is_address.ensures ∙ c.if-not-is_address.true))
 
-pub returns-then-out-lt17 : goal.returns-then-out-lt17
+pub returns-then-short : goal.returns-then-short
 unfolding serial_info serial
-returns-then-out-lt17 c =
+returns-then-short c =
     let given = c.args.given in
     let h : Fits w8 given.adr = search rules in
     let z = (ap length (serial-text given.serial) ∙ row-length 16 given.serial (serial-ok given _ c.well_formed.1.0)) in
     let fine = led given.adr serial given.serial (sym c.is_address.ensures ∙ c.if-not-is_address.false) h.fits (serial-ok given _ c.well_formed.1.0) in
-    writing-short 33 ((serial_info given.adr).put (given.adr, given.serial)) c.args.out.now (is_address given.adr && (serial_info given.adr).ok (given.adr, given.serial)) fine (omega (arith, z, c.if-out-lt17.true))
+    writing-short 33 ((serial_info given.adr).put (given.adr, given.serial)) c.args.out.now (is_address given.adr && (serial_info given.adr).ok (given.adr, given.serial)) fine (omega (arith, z, c.if-short.true))
 
 pub put_serial-end-requires : goal.put_serial-end-requires
 unfolding serial
 put_serial-end-requires c =
     let given = c.args.given in
     let z = (ap length (serial-text given.serial) ∙ row-length 16 given.serial (serial-ok given _ c.well_formed.1.0)) in
-    record { fits = omega (arith, z, c.if-out-lt17.false, c.put-at.ensures.end, c.put-at.auto) }
+    record { fits = omega (arith, z, c.if-short.false, c.put-at.ensures.end, c.put-at.auto) }
 
 pub returns : goal.returns
 unfolding serial_info serial
@@ -47,5 +45,5 @@ returns c =
     let h : Fits w8 given.adr = search rules in
     let z = (ap length (serial-text given.serial) ∙ row-length 16 given.serial (serial-ok given _ c.well_formed.1.0)) in
     let fine = led given.adr serial given.serial (sym c.is_address.ensures ∙ c.if-not-is_address.false) h.fits (serial-ok given _ c.well_formed.1.0) in
-    writing-all 33 ((serial_info given.adr).put (given.adr, given.serial)) c.args.out.now (is_address given.adr && (serial_info given.adr).ok (given.adr, given.serial)) fine (omega (arith, z, c.if-out-lt17.false)) c.put_serial-end.new.out c.put_serial-end.result
-    (put_then (record { fits = omega (arith, c.if-out-lt17.false) }) c.put-at.ensures c.put_serial-end.ensures)
+    writing-all 33 ((serial_info given.adr).put (given.adr, given.serial)) c.args.out.now (is_address given.adr && (serial_info given.adr).ok (given.adr, given.serial)) fine (omega (arith, z, c.if-short.false)) c.put_serial-end.new.out c.put_serial-end.result
+    (put_then (record { fits = omega (arith, c.if-short.false) }) c.put-at.ensures c.put_serial-end.ensures)

@@ -1,10 +1,8 @@
 -- 33, then 32, then Command and the record after it.
 use mathlib.Core.Bool.{◌&&◌}
 use mathlib.Core.Path.{sym, ap, ◌∙◌}
-use Prim.Native.Nat.{◌-◌}
 use native.Mathlib.Omega.{arith}
 use lib.ListN.{length}
-use borrow.Author.Tests.{not-true, not-false}
 use mir.Val.{Fits}
 use mir.Syntax.{w8}
 use borrow.Author.Rules.{rules}
@@ -24,21 +22,21 @@ returns-then-not-is_address c =
     let given = c.args.given in
     writing-fault 33 ((version_info given.adr).put (given.adr, given.version)) c.args.out.now (is_address given.adr && (version_info given.adr).ok (given.adr, given.version)) (not-address given.adr ((version_info given.adr).ok (given.adr, given.version)) (sym c.is_address.ensures ∙ c.if-not-is_address.true))
 
-pub returns-then-out-lt6 : goal.returns-then-out-lt6
+pub returns-then-short : goal.returns-then-short
 unfolding version_info version
-returns-then-out-lt6 c =
+returns-then-short c =
     let given = c.args.given in
     let h : Fits w8 given.adr = search rules in
     let z = (ap length (version-text given.version) ∙ row-length 5 given.version (version-ok given _ c.well_formed.1.0)) in
     let fine = led given.adr version given.version (sym c.is_address.ensures ∙ c.if-not-is_address.false) h.fits (version-ok given _ c.well_formed.1.0) in
-    writing-short 33 ((version_info given.adr).put (given.adr, given.version)) c.args.out.now (is_address given.adr && (version_info given.adr).ok (given.adr, given.version)) fine (omega (arith, z, c.if-out-lt6.true))
+    writing-short 33 ((version_info given.adr).put (given.adr, given.version)) c.args.out.now (is_address given.adr && (version_info given.adr).ok (given.adr, given.version)) fine (omega (arith, z, c.if-short.true))
 
 pub put_version-end-requires : goal.put_version-end-requires
 unfolding version
 put_version-end-requires c =
     let given = c.args.given in
     let z = (ap length (version-text given.version) ∙ row-length 5 given.version (version-ok given _ c.well_formed.1.0)) in
-    record { fits = omega (arith, z, c.if-out-lt6.false, c.put-at.ensures.end, c.put-at.auto) }
+    record { fits = omega (arith, z, c.if-short.false, c.put-at.ensures.end, c.put-at.auto) }
 
 pub returns : goal.returns
 unfolding version_info version
@@ -47,5 +45,5 @@ returns c =
     let h : Fits w8 given.adr = search rules in
     let z = (ap length (version-text given.version) ∙ row-length 5 given.version (version-ok given _ c.well_formed.1.0)) in
     let fine = led given.adr version given.version (sym c.is_address.ensures ∙ c.if-not-is_address.false) h.fits (version-ok given _ c.well_formed.1.0) in
-    writing-all 33 ((version_info given.adr).put (given.adr, given.version)) c.args.out.now (is_address given.adr && (version_info given.adr).ok (given.adr, given.version)) fine (omega (arith, z, c.if-out-lt6.false)) c.put_version-end.new.out c.put_version-end.result
-    (put_then (record { fits = omega (arith, c.if-out-lt6.false) }) c.put-at.ensures c.put_version-end.ensures)
+    writing-all 33 ((version_info given.adr).put (given.adr, given.version)) c.args.out.now (is_address given.adr && (version_info given.adr).ok (given.adr, given.version)) fine (omega (arith, z, c.if-short.false)) c.put_version-end.new.out c.put_version-end.result
+    (put_then (record { fits = omega (arith, c.if-short.false) }) c.put-at.ensures c.put_version-end.ensures)

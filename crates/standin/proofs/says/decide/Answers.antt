@@ -1,6 +1,5 @@
 -- The three parts, put together, are the column.
 use mathlib.Core.Path.{◌∙◌}
-use borrow.Author.Rules.{rules}
 use Rattle.command.specs.Heard.{words_of}
 use Rattle.table.specs.Table.{members}
 use Rattle.standin.proofs.says.Column.{in_order}

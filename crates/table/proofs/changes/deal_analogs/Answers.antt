@@ -1,10 +1,9 @@
 -- The first i members have their values; the others are as they were.
 use mathlib.Core.Path.{◌∙◌}
-use Prim.Native.Nat.{◌-◌, ◌≤◌}
 use native.Mathlib.Omega.{arith}
 use lib.Dec.{eqb}
 use lib.ListN.{take, get_or}
-use Rattle.table.proofs.changes.Dealing.{Dealt, dealt-start, dealt-turn, dealt-end, fitted-same}
+use Rattle.table.proofs.changes.Dealing.{dealt-start, dealt-turn, dealt-end, fitted-same}
 use Rattle.table.specs.Changes.{with_analog}
 use Rattle.table.proofs.Members.{nil, at-most-twelve, one-small}
 use Rattle.table.proofs.Twelve.{twelve}

@@ -1,5 +1,4 @@
 -- Each return is one case of the definition.
-use Prim.Native.Nat.{◌-◌}
 use Rattle.table.proofs.changes.fit_alarm.Goals as goal
 
 pub returns-then-member-given : goal.returns-then-member-given

@@ -1,7 +1,6 @@
 -- The record is stored at its place, or there is none.
 use mathlib.Core.Path.{sym, ◌∙◌}
 use native.Mathlib.Omega.{arith}
-use borrow.Author.Rules.{rules}
 use Rattle.table.proofs.changes.Storing.{in_range, there, not_there}
 use Rattle.table.proofs.Members.{at-most-twelve}
 use Rattle.table.proofs.Twelve.{twelve}

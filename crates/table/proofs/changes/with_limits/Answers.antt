@@ -1,5 +1,4 @@
 -- The member with the ADR, changed and stored.
-use borrow.Author.Rules.{rules}
 use Rattle.table.proofs.changes.Storing.{as-replaced}
 use Rattle.table.specs.Changes.{with_limits}
 use Rattle.table.proofs.changes.with_limits.Goals as goal

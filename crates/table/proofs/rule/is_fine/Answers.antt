@@ -1,10 +1,7 @@
 -- The types of limits, serial, version and parameters make these encodable; the rest is tested.
 use mathlib.Core.Bool.{Bool, ◌&&◌}
 use mathlib.Core.Path.{sym, ap, ◌∙◌}
-use Prim.Native.Nat.{◌-◌}
 use lib.Dec.{leb}
-use borrow.Author.Tests.{not-true, not-false}
-use borrow.Author.Rules.{rules}
 use Rattle.table.proofs.rule.Rules.{not-placed, by_parts}
 use Rattle.record.proofs.Typed.{module-limits-ok, serial-ok, version-ok, module-parameters-ok}
 use Rattle.table.proofs.rule.is_fine.Goals as goal
