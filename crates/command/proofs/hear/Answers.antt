@@ -3,7 +3,6 @@ use mathlib.Core.Path.{sym, ap, ◌∙◌}
 use Prim.Native.Nat.{ℕ, ◌%◌}
 use lib.ListN.{length}
 use borrow.Author.Tests.{lt-ltb, le-ltb}
-use borrow.Author.Rules.{rules}
 use Rattle.command.specs.Heard.{words, zeros}
 use Rattle.frame.specs.Judge.{lenid}
 use Rattle.command.proofs.hear.Goals as goal

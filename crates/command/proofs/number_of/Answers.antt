@@ -1,6 +1,5 @@
 -- Each arm is one case of the definition.
 use mathlib.Core.Path.{sym, ap, ◌∙◌}
-use borrow.Author.Rules.{rules}
 use Rattle.command.specs.Heard.{number_of}
 use Rattle.frame.specs.Judge.{paper}
 use Rattle.frame.specs.declared.Judged.{Judged}

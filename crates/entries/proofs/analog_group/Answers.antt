@@ -1,5 +1,4 @@
 -- The writer's answer, flattened.
-use borrow.Author.Rules.{rules}
 use Rattle.flat.proofs.Flat.{flat-writes}
 use Rattle.entries.proofs.analog_group.Goals as goal
 

@@ -1,6 +1,5 @@
 -- The reading, flattened, and how many records are to be stored.
 use mathlib.Core.Path.{ap, ◌∙◌}
-use borrow.Author.Rules.{rules}
 use Rattle.flat.specs.Flat.{reply_of}
 use Rattle.reply.specs.Read as Read
 use Rattle.entries.specs.Entries.{stored_of}

@@ -1,5 +1,4 @@
 -- The stand-in's answer, flattened.
-use borrow.Author.Rules.{rules}
 use Rattle.entries.proofs.Serving.{flat-serves}
 use Rattle.entries.proofs.serve.Goals as goal
 

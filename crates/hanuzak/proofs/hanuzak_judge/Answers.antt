@@ -1,6 +1,5 @@
 -- The judgement, flattened.
 use mathlib.Core.Path.{ap, ◌∙◌}
-use borrow.Author.Rules.{rules}
 use Rattle.flat.specs.Flat.{event_of}
 use Rattle.hanuzak.proofs.hanuzak_judge.Goals as goal
 

@@ -1,6 +1,5 @@
 -- The totals, flattened.
 use mathlib.Core.Path.{ap, ◌∙◌}
-use borrow.Author.Rules.{rules}
 use Rattle.listing.specs.declared.Listing.{Listing}
 use Rattle.listing.specs.Piece.{closing}
 use Rattle.flat.proofs.Flat.{flat-writes}

@@ -1,6 +1,5 @@
 -- A fresh listing, flattened.
 use mathlib.Core.Path.{ap, ◌∙◌}
-use borrow.Author.Rules.{rules}
 use Rattle.flat.specs.Listing.{flat_listing}
 use Rattle.hanuzak.proofs.hanuzak_listing_new.Goals as goal
 

@@ -1,5 +1,4 @@
 -- The run, flattened.
-use borrow.Author.Rules.{rules}
 use Rattle.flat.proofs.Flat.{flat-runs}
 use Rattle.hanuzak.proofs.hanuzak_run.Goals as goal
 

@@ -1,5 +1,4 @@
 -- The step, flattened.
-use borrow.Author.Rules.{rules}
 use Rattle.flat.proofs.Flat.{flat-steps}
 use Rattle.hanuzak.proofs.hanuzak_step.Goals as goal
 

@@ -1,5 +1,4 @@
 -- Each return lies between two powers of ten.
-use Prim.Native.Nat.{◌-◌}
 use native.Mathlib.Omega.{arith}
 use Rattle.texts.proofs.Decimals.{places-are}
 use Rattle.texts.proofs.places.Goals as goal

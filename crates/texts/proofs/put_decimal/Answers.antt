@@ -1,7 +1,5 @@
 -- One digit, or as many as the number has.
-use Prim.Native.Nat.{◌-◌}
 use native.Mathlib.Omega.{arith}
-use borrow.Author.Rules.{rules}
 use Rattle.texts.proofs.Decimals.{decimal-small, decimal-digits}
 use Rattle.texts.proofs.put_decimal.Goals as goal
 

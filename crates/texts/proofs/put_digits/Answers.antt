@@ -1,9 +1,9 @@
 -- The loop's invariant: the digits that are left, put over what stands there, give the whole.
 use mathlib.Core.List.{List}
 use mathlib.Core.Path.{◌≡◌, refl, sym, ap, ◌∙◌}
-use Prim.Native.Nat.{ℕ, ◌+◌, ◌-◌, ◌≤◌}
+use Prim.Native.Nat.{ℕ, ◌+◌}
 use native.Mathlib.Omega.{arith}
-use lib.ListN.{length, length-set}
+use lib.ListN.{length-set}
 use Rattle.texts.proofs.Texts.{digits-turn}
 use Rattle.texts.proofs.Decimals.{digits-length}
 use Rattle.texts.specs.Text.{digits}

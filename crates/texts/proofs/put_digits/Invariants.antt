@@ -1,13 +1,8 @@
 -- The loop's invariant: the digits that are left, put over what stands there, give the whole.
-use mathlib.Core.List.{List}
-use mathlib.Core.Path.{◌≡◌, refl, sym, ap, ◌∙◌}
-use Prim.Native.Nat.{ℕ, ◌+◌, ◌-◌, ◌≤◌}
-use native.Mathlib.Omega.{arith}
-use lib.ListN.{length, length-set}
-use Rattle.texts.proofs.Texts.{digits-turn}
-use Rattle.texts.proofs.Decimals.{digits-length}
+use mathlib.Core.Path.{◌≡◌}
+use Prim.Native.Nat.{◌≤◌}
+use lib.ListN.{length}
 use Rattle.texts.specs.Text.{digits}
-use Rattle.buffer.proofs.Puts.{puts-nil}
 use Rattle.buffer.specs.Put.{puts}
 use Rattle.texts.proofs.put_digits.Given as goal
 

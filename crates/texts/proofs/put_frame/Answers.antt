@@ -1,7 +1,5 @@
 -- The six lines, one after the other.
 use mathlib.Core.Path.{◌∙◌}
-use Prim.Native.Nat.{◌-◌}
-use borrow.Author.Rules.{rules}
 use Rattle.texts.proofs.Texts.{room_at, room-ver, room-adr, room-cid1, room-cid2, room-info, frame-put}
 use Rattle.texts.proofs.put_frame.Goals as goal
 

@@ -1,7 +1,5 @@
 -- The key, what it says, and LF, one after the other.
 use mathlib.Core.Path.{◌∙◌}
-use Prim.Native.Nat.{◌-◌}
-use borrow.Author.Rules.{rules}
 use Rattle.texts.proofs.Texts.{room-key, room-said, room-lf, line-put}
 use Rattle.texts.specs.Text.{decimal}
 use Rattle.texts.proofs.put_number_line.Goals as goal

@@ -1,5 +1,4 @@
 -- The two lines of a refusal, and one more.
-use borrow.Author.Rules.{rules}
 use Rattle.buffer.proofs.Puts.{put_then, room-first, room-rest}
 use Rattle.texts.specs.Text.{PLACE, decimal, line}
 use Rattle.texts.specs.Block.{refusal_lines, placed_lines}

@@ -1,6 +1,4 @@
 -- Two lines, one after the other.
-use Prim.Native.Nat.{◌-◌}
-use borrow.Author.Rules.{rules}
 use Rattle.texts.specs.Block.{refusal_lines}
 use Rattle.texts.specs.Text.{AT, REFUSED, decimal, line}
 use Rattle.buffer.proofs.Puts.{put_then, room-first, room-rest}
