@@ -1,6 +1,7 @@
 // Lists a capture: standard input to standard output, the first 1,073,741,824 bytes and no more. It takes no argument.
 // Where a read or a write fails it says why on standard error, and writes no totals.
-// What the operating system answers is handed on as it came, as a parameter or in a result, so that what follows from it has a contract.
+// What the operating system answers is handed on, as a parameter or in a result, so that what follows from it has a contract: of a read how many
+// bytes it gave, or -1 where it failed.
 
 #![tactic(auto)]
 
@@ -177,7 +178,7 @@ fn read_some(rt: &impl Eprint, input: &mut impl Read, buffer: &mut [u8]) -> isiz
     }
 }
 
-// Handles once, no more than is left, and lists what came. It asks for one byte at least, so that none means the end of the input.
+// Reads once, no more than is left, and lists what came. It asks for one byte at least, so that none means the end of the input.
 fn read_turn(
     rt: &(impl Print + Eprint),
     input: &mut impl Read,
@@ -234,7 +235,7 @@ fn is_at_limit(turn: Turn) -> bool
     next.left() == 0
 }
 
-// Handles and lists until the end of the input, the limit or a failure. Each turn that goes on has read a byte at least, so that less is left.
+// Reads and lists until the end of the input, the limit or a failure. Each turn that goes on has read a byte at least, so that less is left.
 fn list_all(
     rt: &(impl Print + Eprint),
     input: &mut impl Read,
