@@ -38,7 +38,7 @@
  *      unspecified after a store: never compare two records by memcmp.
  * There is no other duty: every value of every field is a legal argument, a bad one gets a refusal's number.
  * No function allocates, blocks, keeps a pointer after it returns or has state of its own.  Of libc they call memcpy, memmove and
- * memset.  Measured, not proved: hanuzak_answer and hanuzak_read_reply take 22 KB of stack, the group writers 11, every other at
+ * memset.  Measured, not proved: hanuzak_read_reply takes 38 KB of stack, hanuzak_answer 18, the group writers 9, every other at
  * most 7.
  *
  * Where a field has no value it is 0.  With a refusal every lent buffer and the table stay as they were, unless said otherwise.

@@ -1,2 +1,2 @@
-pub mod List
+pub mod Laws
 pub mod Size

@@ -1,3 +1,2 @@
-pub mod Capacity
-pub mod List
+pub mod Laws
 pub mod Size

@@ -1,131 +1,110 @@
-// The reader of a 42H record's capacities at a place of INFO: remaining 1, items, total 1, cycles, with items 4 remaining 2 and total 2.
-// The 65 Ah rule (19) is judged after the last byte; on a refusal every field is 0.
+// The format of a 42H record's capacities, in mAh, and cycles: remaining 1, items, total 1, cycles, and with items 4 remaining 2 and total 2.
 
-ghost use Rattle.std.specs.Prelude.{◌≡◌, true, false, length, drop};
-ghost use Rattle.hex_chars.specs.Hex.{unhexes};
+#![tactic(auto, unfolding(record::specs::Capacities::capacities))]
+
+ghost use Rattle.std.specs.Prelude.{◌≡◌, true, cond, leb};
+ghost use Rattle.buffer.specs.Put.{Room, Put};
 ghost use Rattle.codec.specs.Numbers.{three};
-ghost use Rattle.codec.specs.Reading.{outcome, reads};
-ghost use Rattle.record.specs.Capacities.{capacities};
-ghost use Rattle.parts.specs.Readings.{paper};
-ghost use Rattle.analog.specs.Capacity.{paper_capacity, after_items};
-ghost use Rattle.record.specs.Nothing.{no_capacities};
+ghost use Rattle.fields.specs.Reads.{found};
+ghost use Rattle.record.specs.Capacities.{items, capacities};
+ghost use Rattle.analog.specs.Laws.{some_capacities};
 
-use fields::Next;
-use parts::reading::Reading;
+use fields::Fields;
+use parts::bytes::put_word;
+use parts::format::Format;
 use refusal::Refusal;
 
-#[derive(Clone, Copy)]
-pub struct CapacitiesRead {
-    pub reading: Reading,
-    pub remaining: u32,
-    pub total: u32,
-    pub cycles: u16,
-}
-
-// A capacity of three bytes and the place after it, or that INFO ends before it does.
-#[derive(Clone, Copy)]
-enum Capacity {
-    Field(u32, usize),
-    Ends,
-}
-
-fn read_capacity(info: &[u8], at: usize) -> Capacity
-    ensures { paper_capacity result ≡ reads three 0 (unhexes info.now) at }
+// The items: whether they are 4, not 2.
+fn read_items(fields: &mut Fields<'_>) -> Result<bool, Refusal>
+    ensures { found result fields.new ≡ items.get fields.old }
 {
-    let Next::Field(high, at1) = fields::field(info, at, 2) else {
-        return Capacity::Ends;
-    };
-    let Next::Field(low, next) = fields::field(info, at1, 1) else {
-        return Capacity::Ends;
-    };
-    Capacity::Field(high as u32 * 256 + low as u32, next)
-}
-
-fn no_capacities(why: Refusal) -> CapacitiesRead
-    ensures { result ≡ record { reading = Reading.Refused why; remaining = 0; total = 0; cycles = 0 } }
-{
-    CapacitiesRead {
-        reading: Reading::Refused(why),
-        remaining: 0,
-        total: 0,
-        cycles: 0,
+    match fields.byte()? {
+        2 => Ok(false),
+        4 => Ok(true),
+        _ => Err(Refusal::ItemsUnknown),
     }
 }
 
-// With items 2, after them: total 1, cycles. Both capacities are at most 65,000.
-fn read_items_2(info: &[u8], at: usize, remaining: u16) -> CapacitiesRead
-    ensures { paper result.reading (result.remaining, (result.total, result.cycles)) ≡ outcome no_capacities (length (unhexes info.now)) (after_items remaining false (drop at (unhexes info.now))) }
+// A capacity of three bytes.
+fn read_three(fields: &mut Fields<'_>) -> Result<u32, Refusal>
+    ensures { found result fields.new ≡ three.get fields.old }
 {
-    let Next::Field(total, at1) = fields::field(info, at, 2) else {
-        return no_capacities(Refusal::InfoEnds);
-    };
-    let Next::Field(cycles, at2) = fields::field(info, at1, 2) else {
-        return no_capacities(Refusal::InfoEnds);
-    };
-    if remaining > 65000 {
-        return no_capacities(Refusal::CapacitiesBreakRule);
-    }
-    if total > 65000 {
-        return no_capacities(Refusal::CapacitiesBreakRule);
-    }
-    CapacitiesRead {
-        reading: Reading::Read(at2),
-        remaining: remaining as u32,
-        total: total as u32,
-        cycles: cycles,
-    }
+    let first = fields.word()?;
+    let last = fields.byte()?;
+    Ok(u32::from(first) * 256 + u32::from(last))
 }
 
-// With items 4, after them: total 1, cycles, remaining 2, total 2. The two-byte fields are FFFFH, and total 2 is above 65,000.
-fn read_items_4(info: &[u8], at: usize, remaining: u16) -> CapacitiesRead
-    ensures { paper result.reading (result.remaining, (result.total, result.cycles)) ≡ outcome no_capacities (length (unhexes info.now)) (after_items remaining true (drop at (unhexes info.now))) }
+fn put_three(out: &mut [u8], at: usize, value: u32) -> usize
+    requires ok { three.ok value ≡ true }
+    requires room { Room out.old at (three.put value) }
+    ensures { Put out.old at (three.put value) out.new result }
 {
-    let Next::Field(total, at1) = fields::field(info, at, 2) else {
-        return no_capacities(Refusal::InfoEnds);
-    };
-    let Next::Field(cycles, at2) = fields::field(info, at1, 2) else {
-        return no_capacities(Refusal::InfoEnds);
-    };
-    let Capacity::Field(remaining2, at3) = read_capacity(info, at2) else {
-        return no_capacities(Refusal::InfoEnds);
-    };
-    let Capacity::Field(total2, at4) = read_capacity(info, at3) else {
-        return no_capacities(Refusal::InfoEnds);
-    };
-    if remaining != 65535 {
-        return no_capacities(Refusal::CapacitiesBreakRule);
-    }
-    if total != 65535 {
-        return no_capacities(Refusal::CapacitiesBreakRule);
-    }
-    let low = total2 <= 65000;
-    if low {
-        return no_capacities(Refusal::CapacitiesBreakRule);
-    }
-    CapacitiesRead {
-        reading: Reading::Read(at4),
-        remaining: remaining2,
-        total: total2,
-        cycles: cycles,
-    }
+    let next = put_word(out, at, (value / 256) as u16);
+    buffer::put(out, next, (value % 256) as u8)
 }
 
-// Remaining 1, items, and what follows by them.
-pub fn read_capacities(info: &[u8], at: usize) -> CapacitiesRead
-    ensures { paper result.reading (result.remaining, (result.total, result.cycles)) ≡ reads capacities no_capacities (unhexes info.now) at }
+// How many bytes they take, by the total: with items 2, or with items 4.
+pub fn size_of(total: u32) -> usize
+    ensures { result ≡ cond (leb total 65000) 7 13 }
 {
-    let Next::Field(remaining, at1) = fields::field(info, at, 2) else {
-        return no_capacities(Refusal::InfoEnds);
-    };
-    let Next::Field(items, at2) = fields::field(info, at1, 1) else {
-        return no_capacities(Refusal::InfoEnds);
-    };
-    if items == 2 {
-        return read_items_2(info, at2, remaining);
+    if total <= 65000 { 7 } else { 13 }
+}
+
+// A value is remaining, total and cycles. The 65 Ah rule is judged after the last byte: with items 2 both are at most 65,000; with items 4 the
+// fields of two bytes are FFFFH, and total 2 is above 65,000.
+pub struct Capacities;
+
+impl Format for Capacities {
+    type Value = (u32, (u32, u16));
+
+    ghost codec = { capacities };
+
+    ghost some = { some_capacities };
+
+    ghost long = { λ c. cond (leb c.1.0 65000) 7 13 };
+
+    fn read(fields: &mut Fields<'_>) -> Result<(u32, (u32, u16)), Refusal> {
+        let remaining = fields.word()?;
+        let four = read_items(fields)?;
+        let total = fields.word()?;
+        let cycles = fields.word()?;
+        if !four {
+            if remaining > 65000 || total > 65000 {
+                return Err(Refusal::CapacitiesBreakRule);
+            }
+            return Ok((remaining as u32, (total as u32, cycles)));
+        }
+        let remaining_2 = read_three(fields)?;
+        let total_2 = read_three(fields)?;
+        if remaining != 65535 || total != 65535 || total_2 <= 65000 {
+            return Err(Refusal::CapacitiesBreakRule);
+        }
+        Ok((remaining_2, (total_2, cycles)))
     }
-    let four = items == 4;
-    if four {
-        return read_items_4(info, at2, remaining);
+
+    fn is_fine((remaining, (total, _)): (u32, (u32, u16))) -> bool {
+        if total <= 65000 {
+            return remaining <= 65000;
+        }
+        remaining < 16777216 && total < 16777216
     }
-    no_capacities(Refusal::ItemsUnknown)
+
+    fn size((_, (total, _)): (u32, (u32, u16))) -> usize {
+        size_of(total)
+    }
+
+    fn put(out: &mut [u8], at: usize, (remaining, (total, cycles)): (u32, (u32, u16))) -> usize {
+        if total <= 65000 {
+            let at = put_word(out, at, remaining as u16);
+            let at = buffer::put(out, at, 2);
+            let at = put_word(out, at, total as u16);
+            return put_word(out, at, cycles);
+        }
+        let at = put_word(out, at, 65535);
+        let at = buffer::put(out, at, 4);
+        let at = put_word(out, at, 65535);
+        let at = put_word(out, at, cycles);
+        let at = put_three(out, at, remaining);
+        put_three(out, at, total)
+    }
 }

@@ -1,21 +1,8 @@
 -- Laws on tests and lists that the layers above share: a test by cases, a rule at every number below a bound, one list cut in two ways.
-use mathlib.Core.Path.{◌≡◌, refl, sym, ap, ◌∙◌, subst}
-use mathlib.Core.Logic.{◌⊎◌, inl, inr}
-use mathlib.Core.Bool.{Bool, true, false, not, cond, ◌&&◌}
-use mathlib.Core.List.{List, [], ◌∷◌, ◌++◌, head-eq_of_cons-eq, tail-eq_of_cons-eq}
-use Prim.Native.Nat.{ℕ, zero, suc, ◌+◌, ◌<◌}
-use native.Mathlib.Nat.{not-suc-le-zero}
-use native.Mathlib.Numerals.{add-one}
-use native.Mathlib.Decide.{ℕ_discrete}
-use native.Mathlib.Omega.{arith}
-use lib.ListN.{length, get_or, take, drop, length-append}
-use lib.Seq.{take_at, drop_at, drop-cons}
-use lib.Dec.{T}
-use mir.Facts.{and_yes}
-
--- two different constructors are never equal: `cc` finds this equation
-pub never {ℓ} : {X : Type ℓ} → ◌≡◌ {A = ℕ} 0 1 → X
-never z = absurd (omega arith)
+use Rattle.std.proofs.Common.{◌≡◌, refl, sym, ap, ◌∙◌, subst, ◌⊎◌, inl, inr, Bool, true, false, not, cond, ◌&&◌, List, [], ◌∷◌, ◌++◌, ℕ, zero, suc, ◌+◌, ◌*◌, ◌<◌, not-suc-le-zero, mul-zero, arith, length, get_or, take, drop, length-append, take_at, drop_at, drop-drop, T}
+use Rattle.std.proofs.Math.Decide.{ℕ_discrete}
+use Rattle.std.specs.Simd.{first_chunks}
+use Rattle.std.proofs.Math.Facts.{and_yes}
 
 -- what holds in both cases of a test holds of its outcome
 pub by_cond {ℓ κ} : {X : Type ℓ} (P : X → Type κ) (b : Bool) {x y : X} → (T b → P x) → (T (not b) → P y) → P (cond b x y)
@@ -35,9 +22,12 @@ below f (suc n) t k h =
       | no e ↦ below f n (and_yes (f n) (every f n) t).1 k (omega arith)
     ]
 
--- what is left at a place: its element, and what is left at the next
-pub left_at : (s : List ℕ) (i : ℕ) → i < length s → drop i s ≡ get_or s i 0 ∷ drop (i + 1) s
-left_at s i h = rw (add-one, drop-cons s i 0)
+-- a whole chunk of many
+pub chunk_at : (n k i : ℕ) (s d : List ℕ) → i < k → get_or (first_chunks n k s) i d ≡ take n (drop (n * i) s)
+chunk_at n zero i s d h = absurd (omega arith)
+chunk_at n (suc k) zero s d h = rw mul-zero
+chunk_at n (suc k) (suc i) s d h =
+    chunk_at n k i (drop n s) d (omega arith) ∙ ap (take n) (drop-drop (n * i) n s ∙ (let e : n + n * i ≡ n * suc i = omega arith in ap (λ (m : ℕ). drop m s) e))
 
 -- two cuts of one list whose second parts are as long
 pub cancel : (s t u v : List ℕ) → length t ≡ length v → s ++ t ≡ u ++ v → (s ≡ u) × (t ≡ v)
@@ -54,10 +44,10 @@ Levi s t u v = ((z : List ℕ) × (u ≡ s ++ z) × (t ≡ z ++ v)) ⊎ ((x : �
 pub levi : (s t u v : List ℕ) → s ++ t ≡ u ++ v → Levi s t u v
 levi [] t u v e = inl (u, refl, e)
 levi (x ∷ s) t [] v e = inr (x, s, refl, sym e)
-levi (x ∷ s) t (y ∷ u) v e = go (levi s t u v (tail-eq_of_cons-eq e))
+levi (x ∷ s) t (y ∷ u) v e = go (levi s t u v cc)
   where
     q : x ≡ y
-    q = head-eq_of_cons-eq e
+    q = cc
 
     go : Levi s t u v → Levi (x ∷ s) t (y ∷ u) v
     go (inl (z, a, b)) = inl (z, cc, b)

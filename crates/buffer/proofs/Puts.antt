@@ -1,22 +1,12 @@
 -- The laws of a text in a buffer, by which every caller goes: a byte stored, a copy, a text after a text (put_then), the front of a buffer.
-use mathlib.Core.Path.{◌≡◌, sym, ap, ◌∙◌}
-use mathlib.Core.List.{List, [], ◌∷◌, ◌++◌, append_assoc}
-use Prim.Native.Nat.{ℕ, ◌+◌, ◌≤◌, ◌<◌}
-use native.Mathlib.Nat.{add_assoc, zero-add}
-use native.Mathlib.Omega.{arith}
-use lib.ListN.{length, take, drop, set, length-append}
-use lib.Seq.{sets-eq, paste, take-length, length-take-le, take_at, drop-append-add, drop-drop, paste-zero}
+use Rattle.std.proofs.Common.{◌≡◌, refl, sym, ap, ◌∙◌, List, [], ◌∷◌, ◌++◌, append_assoc, ℕ, ◌+◌, ◌≤◌, ◌<◌, add_assoc, zero-add, add-one, arith, length, take, drop, set, get_or, length-append, length-take-le, take_at, drop-drop}
+use Rattle.std.proofs.Math.Seq.{sets-eq, drop-append-add, take-length, paste, paste-zero, paste-suc}
 use Rattle.buffer.specs.Put.{puts, Put, Room}
 
 -- one byte stored
 pub puts_one : (out : List ℕ) (at b : ℕ) → at < length out → set out at b ≡ puts out at (b ∷ [])
 unfolding puts
 puts_one out at b h = sets-eq (b ∷ []) out at (omega arith)
-
--- a whole text copied
-pub puts-paste : (out : List ℕ) (at : ℕ) (s : List ℕ) → paste out at s (length s) ≡ puts out at s
-unfolding puts
-puts-paste out at s = ap (λ (t : List ℕ). take at out ++ t ++ drop (at + length s) out) (take-length s)
 
 -- no text
 pub puts-nil : (out : List ℕ) (at : ℕ) → puts out at [] ≡ out
@@ -64,3 +54,18 @@ put-none out at = record { end = omega arith; is = sym (puts-nil out at) }
 -- two answers that the contract allows are one: the place after the text, and the buffer
 pub put_one : (out : List ℕ) (at : ℕ) (text : List ℕ) (a b : ℕ) (out' out'' : List ℕ) → Put out at text out' a → Put out at text out'' b → (a ≡ b) × (out' ≡ out'')
 put_one out at text a b out' out'' p q = (p.end ∙ sym q.end, p.is ∙ sym q.is)
+
+-- one byte more of a text copied byte by byte
+pub copied_more : (out text : List ℕ) (at i : ℕ) → at + length text ≤ length out → i < length text → set (paste out at text i) (at + i) (get_or text i 0) ≡ paste out at text (i + 1)
+copied_more out text at i fits h = paste-suc out at text i 0 (omega arith) h ∙ ap (paste out at text) (sym (add-one i))
+
+-- a whole text copied
+pub copied_all : (out text out' : List ℕ) (at i : ℕ) → i ≡ length text → out' ≡ paste out at text i → Put out at text out' (at + length text)
+unfolding puts
+copied_all out text out' at i all e =
+    record { end = refl; is = e ∙ ap (paste out at text) all ∙ ap (λ (t : List ℕ). take at out ++ t ++ drop (at + length text) out) (take-length text) }
+
+-- a text between what stands before it and what stands after it
+pub puts_mid : (out text : List ℕ) (at : ℕ) → take at out ++ (text ++ drop (length text) (drop at out)) ≡ puts out at text
+unfolding puts
+puts_mid out text at = ap (λ (t : List ℕ). take at out ++ (text ++ t)) (drop-drop (length text) at out) ∙ sym (append_assoc (take at out) text (drop (at + length text) out))

@@ -1,18 +1,11 @@
 -- The three cases of a writer, and that its contract allows one answer and one buffer only.
-use mathlib.Core.Path.{◌≡◌, sym, ap, ◌∙◌}
-use mathlib.Core.Bool.{Bool, true, false}
-use mathlib.Core.List.{List, ◌++◌}
-use Prim.Native.Nat.{ℕ, ◌≤◌, ◌<◌}
-use native.Mathlib.Omega.{arith}
-use lib.ListN.{length, drop}
-use borrow.Author.Tests.{le-leb, lt-leb}
+use Rattle.std.proofs.Common.{◌≡◌, sym, ap, ◌∙◌, Bool, true, false, List, ◌++◌, ℕ, ◌≤◌, ◌<◌, arith, length, drop, le-leb, Result, Ok, Err}
+use Rattle.std.proofs.lemmas.Bool.{lt-leb}
 use Rattle.refusal.specs.Number.{number}
 use Rattle.refusal.proofs.Numbers.{number-injective}
-use Rattle.buffer.specs.declared.Written.{Written}
-use Rattle.buffer.specs.declared.Written.TheVariants.{Wrote, Refused}
+use Rattle.refusal.specs.declared.Refusal.{Refusal}
 use Rattle.buffer.specs.Put.{Put}
 use Rattle.buffer.specs.Writing.{wrote, refused, paper, Left, leaves, writing, Writes}
-use Rattle.buffer.proofs.Lists.{never}
 use Rattle.buffer.proofs.Puts.{puts-front}
 
 module _ (fault : ℕ) (text out : List ℕ) where
@@ -37,14 +30,14 @@ module _ (fault : ℕ) (text out : List ℕ) where
   unfolding writing
   writing-is fine e h = rw (e, le-leb (length text) (length out) h)
 
-paper-injective : (a b : Written) → paper a ≡ paper b → a ≡ b
-paper-injective (Wrote m) (Wrote n) e = cc
-paper-injective (Wrote m) (Refused r) e = never (cc)
-paper-injective (Refused q) (Wrote n) e = never (cc)
-paper-injective (Refused q) (Refused r) e = let n : number q ≡ number r = cc in ap Refused (number-injective q r n)
+paper-injective : (a b : Result ℕ Refusal) → paper a ≡ paper b → a ≡ b
+paper-injective (Ok m) (Ok n) e = cc
+paper-injective (Ok m) (Err r) e = cc
+paper-injective (Err q) (Ok n) e = cc
+paper-injective (Err q) (Err r) e = let n : number q ≡ number r = cc in let m : q ≡ r = number-injective q r n in cc
 
 -- two answers that a writer's contract allows are one, and so are the buffers
-pub writes_one : (left : Left) (a b : Written) (out out' : List ℕ) → Writes left a out → Writes left b out' → (a ≡ b) × (out ≡ out')
+pub writes_one : (left : Left) (a b : Result ℕ Refusal) (out out' : List ℕ) → Writes left a out → Writes left b out' → (a ≡ b) × (out ≡ out')
 writes_one left a b out out' p q =
     let e : leaves (paper a) out ≡ leaves (paper b) out' = p ∙ sym q in
     (paper-injective a b (ap (λ (l : Left). l.outcome) e), ap (λ (l : Left). l.out) e)

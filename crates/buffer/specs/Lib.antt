@@ -1,4 +1,3 @@
 pub mod Put
 pub mod Writing
 pub mod Text
-pub mod Scan

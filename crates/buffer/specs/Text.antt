@@ -1,8 +1,6 @@
 -- A text as the codes of its characters.
-use Rattle.std.specs.Prelude.{List, [], ◌∷◌, ℕ}
-use Prim.Native.Char.{code}
-use Prim.Native.String.{String, [] as []ˢ, ◌∷◌ as ◌∷ˢ◌}
+use Rattle.std.specs.Prelude.{List, ℕ, codes}
+use Prim.Native.String.{String}
 
 abbrev pub ascii : String → List ℕ
-ascii []ˢ = []
-ascii (c ∷ˢ text) = code c ∷ ascii text
+ascii text = codes text

@@ -1,18 +1,17 @@
 -- What a writer answers, and what it leaves in its lent buffer: "each changes only the bytes it writes".
-use Rattle.std.specs.Prelude.{◌≡◌, Bool, cond, List, ◌++◌, ℕ, length, drop, leb}
+use Rattle.std.specs.Prelude.{◌≡◌, Bool, cond, List, ◌++◌, ℕ, length, drop, leb, Result, Ok, Err}
 use Rattle.refusal.specs.Number.{number}
-use Rattle.buffer.specs.declared.Written.{Written}
-use Rattle.buffer.specs.declared.Written.TheVariants.{Wrote, Refused}
+use Rattle.refusal.specs.declared.Refusal.{Refusal}
 
 -- so many bytes were written, or the refusal with this number
 pub data Outcome : Type 0 where
   wrote : ℕ → Outcome
   refused : ℕ → Outcome
 
--- the paper's number and values of a writer's answer
-abbrev pub paper : Written → Outcome
-paper (Wrote n) = wrote n
-paper (Refused r) = refused (number r)
+-- the paper's number and values of a writer's answer: how many bytes it wrote, or its refusal
+abbrev pub paper : Result ℕ Refusal → Outcome
+paper (Ok n) = wrote n
+paper (Err r) = refused (number r)
 
 -- how many bytes were written: none with a refusal
 abbrev pub length_written : Outcome → ℕ
@@ -40,5 +39,5 @@ writing fault fine text out =
     (leaves (wrote (length text)) (text ++ drop (length text) out)))
 
 -- the contract of a writer: its answer and its buffer are these
-abbrev pub Writes : Left → Written → List ℕ → Type 0
+abbrev pub Writes : Left → Result ℕ Refusal → List ℕ → Type 0
 Writes left answer out = leaves (paper answer) out ≡ left

@@ -5,16 +5,8 @@
 ghost use Rattle.std.specs.Prelude.{[], ◌∷◌};
 ghost use Rattle.buffer.specs.Put.{Room, Put};
 
-use refusal::Refusal;
-
-// What a writer answers: how many bytes it wrote, or its refusal.
-#[derive(Clone, Copy)]
-pub enum Written {
-    Wrote(usize),
-    Refused(Refusal),
-}
-
-// One byte.
+// One byte. Buffer and place stay two parameters: a struct that held the lent buffer would have two moments of the loan in each clause.
+#[tactic(auto, using(crate::proofs::Puts::puts_one))]
 pub fn put(out: &mut [u8], at: usize, byte: u8) -> usize
     requires { Room out.old at (byte ∷ []) }
     ensures { Put out.old at (byte ∷ []) out.new result }
@@ -24,14 +16,13 @@ pub fn put(out: &mut [u8], at: usize, byte: u8) -> usize
 }
 
 // All of a text.
+#[tactic(auto, using(crate::proofs::Puts::copied_more))]
 pub fn put_all(out: &mut [u8], at: usize, text: &[u8]) -> usize
     requires { Room out.old at text.now }
     ensures { Put out.old at text.now out.new result }
 {
-    let mut i: usize = 0;
-    while i < text.len() {
-        out[at + i] = text[i];
-        i += 1;
+    for (i, &byte) in text.iter().enumerate() {
+        out[at + i] = byte;
     }
     at + text.len()
 }

@@ -1,71 +1,36 @@
--- A counted list, by the count that stands first: refused, or as its values are.
-use mathlib.Core.Path.{◌≡◌, refl, sym, ap, ◌∙◌, subst}
-use mathlib.Core.Bool.{Bool, true, false, ◌&&◌}
-use mathlib.Core.List.{List, [], ◌∷◌, ◌++◌}
-use Prim.Native.Nat.{ℕ, zero, suc, ◌<◌, ◌≤◌}
-use native.Mathlib.Omega.{arith}
-use native.Mathlib.Nat.{not-suc-le-zero, le_of_suc-le-suc}
-use lib.ListN.{length, take, drop, replicate}
-use lib.Dec.{T, leb, ltb, eqb, leb→le, eqb→eq}
-use mir.Facts.{and_yes}
-use borrow.Author.Tests.{le-leb, lt-leb, lt-ltb, eq-eqb}
-use Rattle.codec.specs.Codec.{Codec, got, no, byte}
-use Rattle.codec.specs.Row.{row, row_ok}
-use Rattle.codec.specs.Counted.{Zero, pad_to, every, counted}
+-- A counted list: what is read of it, by the count that stands first, and how long it is.
+use Rattle.std.proofs.Common.{◌≡◌, refl, sym, ap, ◌∙◌, true, List, [], ◌∷◌, ◌++◌, ℕ, zero, suc, ◌+◌, ◌*◌, ◌≤◌, length, take, drop, replicate, le-leb, not-suc-le-zero, le_of_suc-le-suc, arith}
+use Rattle.std.proofs.lemmas.Bool.Decides.{nat_tests}
+use Rattle.std.proofs.lemmas.List.{length-take-le}
+use Rattle.codec.specs.Codec.{Codec, got, byte}
+use Rattle.codec.specs.Row.{row}
+use Rattle.codec.specs.Counted.{Zero, pad_to, counted}
+use Rattle.codec.proofs.RowPuts.{row-length}
 
 -- values put into the front of a list of zeros
 pub padded-front : {A : Type 0} (z : A) (N : ℕ) (l : List A) → length l ≤ N → l ++ drop (length l) (replicate N z) ≡ pad_to z N l
 padded-front z zero [] h = refl
-padded-front z (suc N) [] h = ap (λ t. z ∷ t) (padded-front z N [] (zero-le' N))
-  where
-    zero-le' : (n : ℕ) → 0 ≤ n
-    zero-le' n = omega arith
+padded-front z (suc N) [] h = ap (λ t. z ∷ t) (padded-front z N [] (omega arith))
 padded-front z zero (a ∷ l) h = absurd (not-suc-le-zero h)
 padded-front z (suc N) (a ∷ l) h = ap (λ t. a ∷ t) (padded-front z N l (le_of_suc-le-suc h))
 
-module _ {A : Type 0} (c : Codec A) (o : Zero A) (K : ℕ) (s : List ℕ) (at : ℕ) where
-  pub count-ends : byte.get (drop at s) ≡ no 16 → (counted c o K).get (drop at s) ≡ no 16
-  count-ends e = rw e
+module _ {A : Type 0} (c : Codec A) (o : Zero A) (K : ℕ) where
+  -- a count within range, and as many values after it
+  pub count-goes : (s : List ℕ) {t rest : List ℕ} {m n : ℕ} {list : List A} → byte.get s ≡ got m t → 1 ≤ m → m ≤ K → n ≡ m → length list ≡ m
+      → got list rest ≡ (row c n).get t → got (m, list ++ drop m (replicate K o.zero)) rest ≡ (counted c o K).get s
+  count-goes s {t} {rest} {m} {n} {list} e l h z k f =
+      let g : (row c m).get t ≡ got list rest = ap (λ (j : ℕ). (row c j).get t) (sym z) ∙ sym f in
+      let p : pad_to o.zero K list ≡ list ++ drop m (replicate K o.zero) =
+      sym (padded-front o.zero K list (omega arith)) ∙ ap (λ (j : ℕ). list ++ drop j (replicate K o.zero)) k in
+      rw (e, le-leb 1 m l, le-leb m K h, g, p)
 
-  module _ (m at1 : ℕ) (e : byte.get (drop at s) ≡ got m (drop at1 s)) where
-    pub count_low : m < 1 → (counted c o K).get (drop at s) ≡ no 15
-    count_low l = rw (e, lt-leb 1 m l)
+  module _ (n : ℕ) (l : List A) (e : (counted c o K).ok (n, l) ≡ true) where
+    pub count-most : n ≤ K
+    count-most = grind (arith, nat_tests)
 
-    pub count-high : 1 ≤ m → K < m → (counted c o K).get (drop at s) ≡ no 15
-    count-high l h = rw (e, le-leb 1 m l, lt-leb m K h)
+    count-long : length l ≡ K
+    count-long = grind (arith, nat_tests)
 
-    -- n values, as many as the count says
-    module _ (l : 1 ≤ m) (h : m ≤ K) {n : ℕ} (z : n ≡ m) where
-      pub count-stops : {k : ℕ} → (row c n).get (drop at1 s) ≡ no k → (counted c o K).get (drop at s) ≡ no k
-      count-stops {k} f = let g : (row c m).get (drop at1 s) ≡ no k = ap (λ (j : ℕ). (row c j).get (drop at1 s)) (sym z) ∙ f in rw (e, le-leb 1 m l, le-leb m K h, g)
-
-      pub count-goes : {list : List A} {rest : List ℕ} → length list ≡ m → (row c n).get (drop at1 s) ≡ got list rest
-          → (counted c o K).get (drop at s) ≡ got (m, list ++ drop m (replicate K o.zero)) rest
-      count-goes {list} {rest} k f =
-          let g : (row c m).get (drop at1 s) ≡ got list rest = ap (λ (j : ℕ). (row c j).get (drop at1 s)) (sym z) ∙ f in
-          let p : pad_to o.zero K list ≡ list ++ drop m (replicate K o.zero) =
-          sym (padded-front o.zero K list (omega arith)) ∙ ap (λ (j : ℕ). list ++ drop j (replicate K o.zero)) k in
-          rw (e, le-leb 1 m l, le-leb m K h, g, p)
-
--- whether a counted list can be written: its count in range, its values as they may be, and zeros beyond
-module _ {A : Type 0} (c : Codec A) (o : Zero A) (K n : ℕ) (l : List A) where
-  regroup : (x y r b z : Bool) → (T y → r ≡ b) → ((((x && y) && true) && r) && z) ≡ ((x && y) && (b && z))
-  regroup true true r b z h = ap (λ (t : Bool). t && z) (h tt)
-  regroup true false r b z h = refl
-  regroup false y r b z h = refl
-
-  pub count-fine : (b : Bool) → n < 256 → length l ≡ K → (n ≤ K → row_ok c n (take n l) ≡ b)
-      → (counted c o K).ok (n, l) ≡ ((leb 1 n && leb n K) && (b && every o.test (drop n l)))
-  count-fine b h e f =
-      rw (lt-ltb n 256 h, eq-eqb (length l) K e)
-      (regroup (leb 1 n) (leb n K) (row_ok c n (take n l)) b (every o.test (drop n l)) (λ t. f (leb→le n K t)))
-
-  -- and what that says of it
-  pub count-parts : (counted c o K).ok (n, l) ≡ true → (n ≤ K) × (length l ≡ K)
-  count-parts e =
-      let u = and_yes (((leb 1 n && leb n K) && ltb n 256) && row_ok c n (take n l)) (eqb (length l) K && every o.test (drop n l)) (subst T (sym e) tt) in
-      let v = and_yes ((leb 1 n && leb n K) && ltb n 256) (row_ok c n (take n l)) u.0 in
-      let w = and_yes (leb 1 n && leb n K) (ltb n 256) v.0 in
-      let x = and_yes (leb 1 n) (leb n K) w.0 in
-      let y = and_yes (eqb (length l) K) (every o.test (drop n l)) u.1 in
-      (leb→le n K x.1, eqb→eq (length l) K y.0)
+    -- of values that take m bytes each
+    pub count-length : (m : ℕ) → ((a : A) → length (c.put a) ≡ m) → length ((counted c o K).put (n, l)) ≡ 1 + n * m
+    count-length m len = let t = length-take-le n l (omega (arith, count-most, count-long)) in rw (row-length c m len (take n l), t) (omega arith)

@@ -7,4 +7,3 @@ pub mod Row
 pub mod Counted
 pub mod Whole
 pub mod Many
-pub mod Reading

@@ -7,24 +7,24 @@ use Rattle.codec.specs.Codec.{Codec, Got, got, no, and_then, got_value, got_rest
 
 module _ {A : Type 0} (p : A → Bool) (n : ℕ) (c : Codec A) where
   abbrev pub tested_get : List ℕ → Got A
-  tested_get s = and_then (c.get s) (λ a r. cond (p a) (got a r) (no n))
+  tested_get s = and_then (c.get s) (λ a r. cond (p a) (got a r) (no n r))
 
-  passes : (t : Bool) (g : Got A) → T t → cond t g (no n) ≡ g
-  passes true g h = refl
-  passes false g h = absurd h
+  passes : (t : Bool) (g h : Got A) → T t → cond t g h ≡ g
+  passes true g h t = refl
+  passes false g h t = absurd t
 
-  passed : (t : Bool) (a b : A) (r rest : List ℕ) → cond t (got a r) (no n) ≡ got b rest → T t × (a ≡ b) × (r ≡ rest)
+  passed : (t : Bool) (a b : A) (r rest : List ℕ) → cond t (got a r) (no n r) ≡ got b rest → T t × (a ≡ b) × (r ≡ rest)
   passed true a b r rest e = (tt, got_value e, got_rest e)
   passed false a b r rest e = no_got e
 
   pub tested_there : (a : A) (rest : List ℕ) → T (p a && c.ok a) → tested_get (c.put a ++ rest) ≡ got a rest
   tested_there a rest h =
       let hs = and_yes (p a) (c.ok a) h in
-      rw (c.there a rest hs.1) (passes (p a) (got a rest) hs.0)
+      rw (c.there a rest hs.1) (passes (p a) (got a rest) (no n rest) hs.0)
 
   pub tested_back : (s : List ℕ) (a : A) (rest : List ℕ) → Bytes s → tested_get s ≡ got a rest → (s ≡ c.put a ++ rest) × T (p a && c.ok a)
   tested_back s a rest h e =
-      let u = then_inv (c.get s) (λ a r. cond (p a) (got a r) (no n)) a rest e in
+      let u = then_inv (c.get s) (λ a r. cond (p a) (got a r) (no n r)) a rest e in
       let b = u.0 in
       let v = passed (p b) b a u.1 rest u.3 in
       let one = c.back s b u.1 h u.2 in

@@ -2,7 +2,6 @@
 use Rattle.std.specs.Prelude.{◌≡◌, refl, List, [], ◌∷◌, ◌++◌, Bool, ◌&&◌, ℕ, T}
 use Rattle.std.proofs.Common.{sym, ◌∙◌, ap, subst, append-nil}
 use Rattle.std.proofs.Math.Facts.{and_yes, yes_and}
-use Rattle.buffer.proofs.Lists.{never}
 use Rattle.hex_chars.specs.Hex.{Bytes}
 use Rattle.hex_chars.proofs.Laws.{bytes-join, bytes_cut}
 use Rattle.codec.specs.Codec.{Codec, Got, got, no}
@@ -16,7 +15,7 @@ pub told_value : {A : Type 0} {a b : A} → ◌≡◌ {A = Told A} (told a) (tol
 told_value e = cc
 
 pub refuse_told {ℓ} : {A : Type 0} {X : Type ℓ} {a : A} {n : ℕ} → ◌≡◌ {A = Told A} (refuse n) (told a) → X
-refuse_told e = never (cc)
+refuse_told e = cc
 
 pub record Whole (A : Type 0) : Type 0 where
   pub ok : A → Bool
@@ -29,11 +28,11 @@ pub record Whole (A : Type 0) : Type 0 where
 -- go on with the value and the rest
 abbrev pub onward : {A B : Type 0} → Got A → (A → List ℕ → Told B) → Told B
 onward (got a s) k = k a s
-onward (no n) k = refuse n
+onward (no n s) k = refuse n
 
 pub onward_inv : {A B : Type 0} (g : Got A) (k : A → List ℕ → Told B) (b : B) → onward g k ≡ told b → (a : A) × (r : List ℕ) × (g ≡ got a r) × (k a r ≡ told b)
 onward_inv (got a r) k b e = (a, r, refl, e)
-onward_inv (no n) k b e = refuse_told e
+onward_inv (no n s) k b e = refuse_told e
 
 abbrev pub mapped : {A B : Type 0} → Told A → (A → B) → Told B
 mapped (told a) f = told (f a)

@@ -1,9 +1,6 @@
 -- Kinds and what they are on paper, both ways: a kind's CID2 and form ask for that kind, and what a served CID2 and a Command ask for is that CID2.
-use mathlib.Core.Path.{◌≡◌, refl, sym, ap, ◌∙◌, subst}
-use mathlib.Core.Bool.{Bool, true, false, cond, ◌&&◌}
-use Prim.Native.Nat.{ℕ}
-use lib.Dec.{T, eqb, eqb→eq}
-use Rattle.buffer.proofs.Lists.{never, by_cond}
+use Rattle.std.proofs.Common.{◌≡◌, refl, sym, ap, ◌∙◌, subst, Bool, true, false, cond, ◌&&◌, ℕ, T, eqb, eqb→eq}
+use Rattle.buffer.proofs.Lists.{by_cond}
 use Rattle.command.specs.declared.Kind.{Kind}
 use Rattle.command.specs.declared.Kind.TheVariants.{Analog, AnalogGroup, Alarm, AlarmGroup, Parameters, Protocol, Maker, Limits, Serial, TurnOff, Version, Unserved}
 use Rattle.command.specs.Command.{Form, kind_of, form_of, paper, terms_of}
@@ -68,7 +65,7 @@ form-paper cid2 command =
     (λ e. either group Protocol Protocol false refl refl) (λ e. either group Maker Maker false refl refl)
     (λ e. either group Limits Limits false refl refl) (λ e. either group Serial Serial false refl refl)
     (λ e. either group TurnOff TurnOff false refl refl) (λ e. either group Version Version false refl refl)
-    (λ c e. never (cc)) cid2
+    (λ c e. cc) cid2
   where
     either : (group : Bool) (one all : Kind) (may : Bool) → (paper one).group ≡ false → paper all ≡ record { cid2 = (paper one).cid2; group = may }
         → paper (cond group all one) ≡ record { cid2 = (paper one).cid2; group = group && may }

@@ -1,2 +1,3 @@
 pub mod Ones
 pub mod Forms
+pub mod Numbers

@@ -1,10 +1,5 @@
 -- What a stretch says is determined: what is told is the judge's, whose contract allows one answer, and the rest are the words themselves.
-use mathlib.Core.Path.{◌≡◌, refl, sym, ap, ◌∙◌}
-use mathlib.Core.Bool.{Bool, true, false, cond}
-use mathlib.Core.List.{List}
-use Prim.Native.Nat.{ℕ}
-use lib.ListN.{length}
-use lib.Dec.{ltb}
+use Rattle.std.proofs.Common.{◌≡◌, refl, sym, ap, ◌∙◌, Bool, true, false, cond, List, ℕ, length, ltb}
 use Rattle.frame.specs.Judge.{Judges, judge}
 use Rattle.frame.proofs.Round.{judges-one}
 use Rattle.command.specs.declared.Heard.{Heard}

@@ -4,10 +4,9 @@
 
 ghost use Rattle.std.specs.Prelude.{◌≡◌};
 ghost use Rattle.command.specs.Command.{kind_of, form_of, with_command, plain_terms, terms_of};
-ghost use Rattle.frame.specs.Judge.{paper};
-ghost use Rattle.command.specs.Heard.{number_of, words, words_of};
+ghost use Rattle.command.specs.Heard.{words, words_of};
 
-use frame::{Header, Judged};
+use frame::{Fault, Frame, Header};
 
 // What a CID2 asks for; the group forms of 42H and 44H are those with Command FFH.
 #[derive(Clone, Copy)]
@@ -27,7 +26,7 @@ pub enum Kind {
 }
 
 // What a command asks of its question: whether it is served, whether VER must be the table's, its LENID, whether it has a Command byte, and
-// whether that may be FFH at the master.
+// whether that may be FFH at the master. Each flag is a column of the table of commands by itself, and none says whether another field holds.
 #[derive(Clone, Copy)]
 pub struct Terms {
     pub served: bool,
@@ -40,12 +39,13 @@ pub struct Terms {
 // What a stretch says: the judgement, and what stands at its places.
 #[derive(Clone, Copy)]
 pub struct Heard {
-    pub judged: Judged,
+    pub judged: Result<Frame, Fault>,
     pub header: Header,
     pub lenid: usize,
     pub command: u8,
 }
 
+// The kind of a question, by its CID2 alone: the table of commands, row by row.
 #[tactic(auto, unfolding(crate::specs::Command::kind_of))]
 pub fn kind_of(cid2: u8) -> Kind
     ensures { result ≡ kind_of cid2 }
@@ -69,16 +69,14 @@ pub fn kind_of(cid2: u8) -> Kind
 pub fn form_of(cid2: u8, command: u8) -> Kind
     ensures { result ≡ form_of cid2 command }
 {
-    if command != 0xFF {
-        return kind_of(cid2);
-    }
-    match cid2 {
-        0x42 => Kind::AnalogGroup,
-        0x44 => Kind::AlarmGroup,
+    match (cid2, command) {
+        (0x42, 0xFF) => Kind::AnalogGroup,
+        (0x44, 0xFF) => Kind::AlarmGroup,
         _ => kind_of(cid2),
     }
 }
 
+// A command with a Command byte.
 fn with_command(group: bool) -> Terms
     ensures { result ≡ with_command group }
 {
@@ -91,18 +89,20 @@ fn with_command(group: bool) -> Terms
     }
 }
 
-fn plain(served: bool, ver: bool) -> Terms
-    ensures { result ≡ plain_terms served ver }
+// A command without one. It stands beside `with_command` as the definitions `with_command` and `plain_terms` do: in one function all five fields would be parameters.
+fn plain(served: bool, same_ver: bool) -> Terms
+    ensures { result ≡ plain_terms served same_ver }
 {
     Terms {
         served,
-        same_ver: ver,
+        same_ver,
         lenid: 0,
         has_command: false,
         has_group: false,
     }
 }
 
+// What each kind asks of its question: the columns of the table of commands, row by row.
 #[tactic(auto, unfolding(crate::specs::Command::terms_of))]
 pub fn terms_of(kind: Kind) -> Terms
     ensures { result ≡ terms_of kind }
@@ -116,18 +116,8 @@ pub fn terms_of(kind: Kind) -> Terms
     }
 }
 
-// The number of a judgement: 0 for a frame.
-pub fn number_of(judged: Judged) -> u8
-    ensures { result ≡ number_of (paper judged) }
-{
-    match judged {
-        Judged::Frame(_, _) => 0,
-        Judged::Refused(refusal) => refusal.number(),
-        Judged::RefusedAt(refusal, _) => refusal.number(),
-    }
-}
-
 // Judges a stretch, and reads its places where it is long enough to have them.
+#[tactic(auto, unfolding(crate::specs::Heard::words, frame::specs::Judge::lenid))]
 pub fn hear(stretch: &[u8]) -> Heard
     ensures { words_of result ≡ words stretch.now }
 {

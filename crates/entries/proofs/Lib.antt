@@ -1,3 +1,2 @@
-pub mod Serving
 pub mod Ones
 pub mod Stored

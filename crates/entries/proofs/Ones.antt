@@ -1,7 +1,5 @@
 -- Two results that a contract over the table by value allows are equal: each part is given by an equation, and a table by its members and what stands past them.
-use mathlib.Core.Path.{◌≡◌, sym, ◌∙◌}
-use mathlib.Core.List.{List}
-use Prim.Native.Nat.{ℕ}
+use Rattle.std.proofs.Common.{◌≡◌, sym, ◌∙◌, List, ℕ}
 use Rattle.table.specs.declared.Table.{Table}
 use Rattle.table.proofs.changes.Ones.{table-one}
 use Rattle.standin.specs.Answer.{Left}

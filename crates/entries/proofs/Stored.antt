@@ -1,10 +1,7 @@
 -- What is not stored did not change: only a reply that was read with code 00H to a command that carries records leaves other records than before.
-use mathlib.Core.Path.{◌≡◌, refl}
-use mathlib.Core.Bool.{Bool, true, false, cond, ◌||◌}
-use mathlib.Core.List.{List}
-use Prim.Native.Nat.{ℕ}
-use lib.Dec.{eqb}
-use Rattle.buffer.proofs.Lists.{never, by_cond}
+use Rattle.std.proofs.Common.{◌≡◌, refl, Bool, true, false, cond, List, ℕ, eqb}
+use Rattle.std.proofs.lemmas.Bool.{or_parts}
+use Rattle.buffer.proofs.Lists.{by_cond}
 use Rattle.hex_chars.specs.Hex.{unhexes}
 use Rattle.frame.specs.Frame.{info_at}
 use Rattle.codec.specs.Whole.{Told, told, refuse, mapped}
@@ -31,11 +28,6 @@ carried : {X : Type 0} (ms : List Module) (t : Told X) (to : X → Data) → ((x
 carried ms (told x) to e = e x
 carried ms (refuse k) to e = tt
 
-none_of : (a b rest : Bool) → (a || (b || rest)) ≡ false → (a ≡ false) × (b ≡ false)
-none_of true b rest e = never (cc)
-none_of false true rest e = never (cc)
-none_of false false rest e = (refl, refl)
-
 module _ (ms : List Module) (adr : ℕ) (info : List ℕ) where
   abbrev Same : Kind → Type 0
   Same k = Stays ms (took k ms adr info)
@@ -54,9 +46,9 @@ module _ (ms : List Module) (adr : ℕ) (info : List ℕ) where
       let group = eqb command 0xFF in
       let n = nothing-took in
       by-cid2 (λ (c : ℕ) (k : Kind). carries_records c ≡ false → Same (cond group (cond (eqb c 0x42) AnalogGroup (cond (eqb c 0x44) AlarmGroup k)) k))
-      (λ e. never (cc)) (λ e. never (cc)) (λ e. never (cc)) (λ e. either group Protocol n.0) (λ e. either group Maker n.1.0)
-      (λ e. never (cc)) (λ e. never (cc)) (λ e. either group TurnOff n.1.1.0) (λ e. never (cc))
-      (λ c e. let z = none_of (eqb c 0x42) (eqb c 0x44) _ e in rw (z.0, z.1) (either group Unserved n.1.1.1)) cid2
+      (λ e. cc) (λ e. cc) (λ e. cc) (λ e. either group Protocol n.0) (λ e. either group Maker n.1.0)
+      (λ e. cc) (λ e. cc) (λ e. either group TurnOff n.1.1.0) (λ e. cc)
+      (λ c e. let a = or_parts (eqb c 0x42) _ e in let b = or_parts (eqb c 0x44) _ a.1 in rw (a.0, b.0) (either group Unserved n.1.1.1)) cid2
 
 module _ (q : Question) (ms : List Module) where
   abbrev Kept : Left → Type 0

@@ -1,2 +1,2 @@
-pub mod Unhexed
+pub mod Nexts
 pub mod Ones

@@ -1,73 +1,81 @@
-// The field reader: the next byte and the next word of INFO. INFO is lent as its hex characters, and a place in it counts bytes.
+// The reader of INFO: what is left of it, and the byte or the word that comes next.
 
-#![tactic(auto)]
+#![tactic(auto, using(crate::proofs::Nexts::nexts))]
 
-ghost use Rattle.std.specs.Prelude.{◌≡◌};
+ghost use Rattle.std.specs.Prelude.{◌≡◌, List, ℕ, length, ◌==◌};
 ghost use Rattle.hex_chars.specs.Hex.{unhexes};
 ghost use Rattle.codec.specs.Codec.{byte};
 ghost use Rattle.codec.specs.Numbers.{word};
-ghost use Rattle.codec.specs.Reading.{reads};
-ghost use Rattle.fields.specs.Next.{paper, wide};
+ghost use Rattle.codec.specs.Whole.{at_end};
+ghost use Rattle.fields.specs.Reads.{found, answered};
 
-// A field and the place after it, or that INFO ends before it does.
-#[derive(Clone, Copy)]
-pub enum Next {
-    Field(u16, usize),
-    Ends,
-}
+use refusal::Refusal;
+use std::marker::Model;
 
-// The byte at a place.
-fn byte_from(info: &[u8], at: usize) -> Next
-    ensures { paper result ≡ reads byte 0 (unhexes info.now) at }
-{
-    if at < info.len() / 2 {
-        return Next::Field(hex_chars::byte_at(info, 2 * at) as u16, at + 1);
-    }
-    Next::Ends
-}
-
-// The word at a place.
-fn word_from(info: &[u8], at: usize) -> Next
-    ensures { paper result ≡ reads word 0 (unhexes info.now) at }
-{
-    let count = info.len() / 2;
-    if count < at {
-        return Next::Ends;
-    }
-    if count - at < 2 {
-        return Next::Ends;
-    }
-    Next::Field(hex_chars::word_at(info, 2 * at), at + 2)
-}
-
-// INFO and a place in it.
-#[derive(Clone, Copy)]
+// What is left of INFO, which is lent as its hex characters. A reading that INFO ends before leaves nothing. No `Copy`: the language takes none
+// beside an `impl Model` of borrowed characters.
+#[derive(Clone, Drop)]
 pub struct Fields<'a> {
-    pub info: &'a [u8],
-    pub at: usize,
+    rest: &'a [u8],
+}
+
+impl<'a> Model for Fields<'a> {
+    ghost Value = { List ℕ };
+
+    ghost view = { λ f. unhexes f.rest.now };
 }
 
 impl<'a> Fields<'a> {
-    pub fn next_byte(self) -> Next
-        ensures { paper result ≡ reads byte 0 (unhexes self.entry.info.now) self.entry.at }
+    // All of an INFO.
+    pub fn new(info: &'a [u8]) -> Fields<'a>
+        ensures { result ≡ unhexes info.now }
     {
-        byte_from(self.info, self.at)
+        Fields { rest: info }
     }
 
-    pub fn next_word(self) -> Next
-        ensures { paper result ≡ reads word 0 (unhexes self.entry.info.now) self.entry.at }
+    // The next byte.
+    pub fn byte(&mut self) -> Result<u8, Refusal>
+        ensures { found result self.new ≡ byte.get self.old }
     {
-        word_from(self.info, self.at)
+        if self.rest.len() < 2 {
+            return Err(Refusal::InfoEnds);
+        }
+        let value = hex_chars::byte_at(self.rest, 0);
+        self.rest = &self.rest[2..];
+        Ok(value)
     }
-}
 
-// The field at a place: a byte where its width is 1, else a word.
-pub fn field(info: &[u8], at: usize, width: usize) -> Next
-    ensures { paper result ≡ reads (wide width) 0 (unhexes info.now) at }
-{
-    let fields = Fields { info, at };
-    if width == 1 {
-        return fields.next_byte();
+    // The next word, high byte first.
+    pub fn word(&mut self) -> Result<u16, Refusal>
+        ensures { found result self.new ≡ word.get self.old }
+    {
+        let high = self.byte()?;
+        let low = self.byte()?;
+        Ok(u16::from(high) * 256 + u16::from(low))
     }
-    fields.next_word()
+
+    // How many bytes are left.
+    pub fn len(&self) -> usize
+        ensures { result ≡ length self.now }
+    {
+        self.rest.len() / 2
+    }
+
+    // Whether nothing is left.
+    pub fn is_empty(&self) -> bool
+        ensures { result ≡ (length self.now == 0) }
+    {
+        self.len() == 0
+    }
+
+    // The end of INFO: a byte that is left over is refused.
+    pub fn end(self) -> Result<(), Refusal>
+        ensures { answered result ≡ at_end tt self.entry }
+    {
+        if self.is_empty() {
+            Ok(())
+        } else {
+            Err(Refusal::BytesLeftOver)
+        }
+    }
 }

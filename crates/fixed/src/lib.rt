@@ -1,7 +1,11 @@
-// INFOs of a fixed length: 47H, 92H, 93H, 96H and 51H, read from INFO and written from a record, and 4FH and 95H, which are empty.
+// The formats of a fixed length: 47H, 92H, 93H, 96H and 51H.
 
 #![tactic(auto)]
 
-pub mod info;
-mod reader;
-pub mod writer;
+mod limits;
+mod parameters;
+mod texts;
+
+pub use limits::ManagementLimits;
+pub use parameters::SystemParameters;
+pub use texts::{FirmwareVersion, MakerText, SerialNumber};

@@ -1,10 +1,5 @@
 -- Demand 3 for C, and what is told to it: the numbers say what the enums do, so its calls take bytes as `run` and `step` do.
-use mathlib.Core.Path.{◌≡◌, refl, sym, ap, ◌∙◌, subst}
-use mathlib.Core.Logic.{◌↔◌}
-use mathlib.Core.List.{List, [], ◌∷◌}
-use Prim.Native.Nat.{ℕ, ◌≤◌, ◌<◌}
-use native.Mathlib.Omega.{arith}
-use lib.ListN.{length, get_or, take}
+use Rattle.std.proofs.Common.{◌≡◌, refl, sym, ap, ◌∙◌, subst, ◌↔◌, List, [], ◌∷◌, ℕ, ◌≤◌, ◌<◌, arith, length, get_or, take}
 use Rattle.frame.specs.Judge.{Told, nothing, refused_at, judge}
 use Rattle.frame.specs.Place.{Placed}
 use Rattle.frame.proofs.Places.{placed}

@@ -1,9 +1,5 @@
 -- The listing for C: the numbers say what the enums do, so its calls are those of `list`.
-use mathlib.Core.Path.{◌≡◌, refl, ap, ◌∙◌}
-use mathlib.Core.List.{List}
-use Prim.Native.Nat.{ℕ}
-use lib.ListN.{length, take}
-use lib.Dec.{ltb}
+use Rattle.std.proofs.Common.{◌≡◌, refl, ap, ◌∙◌, List, ℕ, length, take, ltb}
 use Rattle.buffer.specs.Writing.{leaves}
 use Rattle.buffer.proofs.Lists.{by_cond}
 use Rattle.receiver.specs.Step.{beyond}

@@ -1,7 +1,5 @@
 -- Two results that a contract over numbers allows are equal: each part is given by an equation.
-use mathlib.Core.Path.{◌≡◌, sym, ◌∙◌}
-use mathlib.Core.List.{List}
-use Prim.Native.Nat.{ℕ}
+use Rattle.std.proofs.Common.{◌≡◌, sym, ◌∙◌, List, ℕ}
 use Rattle.buffer.specs.Writing.{Left}
 use Rattle.listing.specs.Piece.{Call}
 use Rattle.flat.specs.declared.FlatWritten.{FlatWritten}

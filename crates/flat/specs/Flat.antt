@@ -1,4 +1,4 @@
--- What C sees: each enum as a struct of the paper's numbers, 0 where there is none.
+-- What C sees: each answer as a struct of the paper's numbers, 0 where there is none.
 use Rattle.std.specs.Prelude.{◌≡◌, cond, List, ℕ, eqb}
 use Rattle.buffer.specs.Writing as Writing
 use Rattle.frame.specs.Judge as Judge
@@ -53,7 +53,7 @@ answered_of (Answer.reply n) = record { kind = 1; number = 0; length = n }
 answered_of (Answer.refused k) = record { kind = 2; number = k; length = 0 }
 
 -- 1 read, 2 refused; and the 32 bytes of 51H
-abbrev pub reply_of : Read.Result → List ℕ → FlatReply
+abbrev pub reply_of : Read.Outcome → List ℕ → FlatReply
 reply_of (Read.read ver code flag) maker = record { kind = 1; number = 0; ver = ver; code = code; flag = flag; maker = maker; place = 0 }
 reply_of (Read.refused k) maker = record { kind = 2; number = k; ver = 0; code = 0; flag = 0; maker = maker; place = 0 }
 reply_of (Read.refused_at k p) maker = record { kind = 2; number = k; ver = 0; code = 0; flag = 0; maker = maker; place = p }

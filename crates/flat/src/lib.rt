@@ -1,4 +1,5 @@
-// What C sees of an enum: a struct of the paper's numbers. Kinds and numbers have 32 bits, a length the width of a size.
+// What C sees of the library's answers: structs of the paper's numbers, 0 where there is none. Kinds and numbers have 32 bits, a length the
+// width of a size. As numbers, and with a length beside, because they are the C interface: include/hanuzak.h has the same structs.
 
 #![tactic(auto)]
 
@@ -11,14 +12,14 @@ ghost use Rattle.reply.specs.Read.{paper as paper_reply};
 ghost use Rattle.flat.specs.Flat.{written_of, event_of, flat_receiver, receiver_of, answered_of, reply_of};
 ghost use Rattle.flat.specs.Listing.{flat_listing, listing_back};
 
-use buffer::Written;
-use frame::Judged;
+use frame::{Fault, Frame};
 use listing::{Listed, Listing};
-use receiver::{Event, Receiver};
-use reply::Outcome;
-use standin::Answered;
+use receiver::{Event, Ran, Receiver, Stepped};
+use refusal::Refusal;
+use reply::Reply;
 
-// A writer's answer: the refusal's number and 0, or 0 and how many bytes.
+// ---- a writer's answer: the refusal's number and 0, or 0 and how many bytes
+
 #[repr(C)]
 #[derive(Clone, Copy)]
 pub struct FlatWritten {
@@ -26,9 +27,25 @@ pub struct FlatWritten {
     pub length: usize,
 }
 
-// An event: kind 0 nothing, 1 a frame with its four bytes and LENID, 2 refused, with 4 and 9 the place of the first character that isn't hex.
+impl From<Result<usize, Refusal>> for FlatWritten {
+    ghost from_gives = { λ written flat. flat ≡ written_of (paper_written written) };
+
+    fn from(written: Result<usize, Refusal>) -> FlatWritten {
+        match written {
+            Ok(length) => FlatWritten { number: 0, length },
+            Err(refusal) => FlatWritten {
+                number: u32::from(refusal.number()),
+                length: 0,
+            },
+        }
+    }
+}
+
+// ---- an event: kind 0 nothing, 1 a frame with its four bytes and LENID, 2 refused, with 4 and 9 the place of the first character that
+// isn't hex
+
 #[repr(C)]
-#[derive(Clone, Copy)]
+#[derive(Clone, Copy, Default)]
 pub struct FlatEvent {
     pub kind: u32,
     pub number: u32,
@@ -40,7 +57,40 @@ pub struct FlatEvent {
     pub lenid: usize,
 }
 
-// A receiver: open 0 is waiting, whatever the count; any other is open.
+impl From<Result<Frame, Fault>> for FlatEvent {
+    ghost from_gives = { λ judged flat. flat ≡ event_of (paper_judged judged) };
+
+    fn from(judged: Result<Frame, Fault>) -> FlatEvent {
+        match judged {
+            Ok(frame) => FlatEvent {
+                kind: 1,
+                ver: frame.header.ver,
+                adr: frame.header.adr,
+                cid1: frame.header.cid1,
+                cid2: frame.header.cid2,
+                lenid: frame.lenid,
+                ..FlatEvent::default()
+            },
+            Err(fault) => FlatEvent {
+                kind: 2,
+                number: u32::from(fault.refusal.number()),
+                place: fault.place.unwrap_or(0),
+                ..FlatEvent::default()
+            },
+        }
+    }
+}
+
+impl From<Event> for FlatEvent {
+    ghost from_gives = { λ event flat. flat ≡ event_of (paper_event event) };
+
+    fn from(event: Event) -> FlatEvent {
+        event.map(FlatEvent::from).unwrap_or_default()
+    }
+}
+
+// ---- a receiver: open 0 is waiting, whatever the count; any other is open
+
 #[repr(C)]
 #[derive(Clone, Copy)]
 pub struct FlatReceiver {
@@ -48,11 +98,47 @@ pub struct FlatReceiver {
     pub count: usize,
 }
 
+impl From<Receiver> for FlatReceiver {
+    ghost from_gives = { λ receiver flat. flat ≡ flat_receiver receiver };
+
+    fn from(receiver: Receiver) -> FlatReceiver {
+        match receiver {
+            Receiver::Waiting => FlatReceiver { open: 0, count: 0 },
+            Receiver::Open(count) => FlatReceiver { open: 1, count },
+        }
+    }
+}
+
+impl From<FlatReceiver> for Receiver {
+    ghost from_gives = { λ flat receiver. receiver ≡ receiver_of flat };
+
+    fn from(flat: FlatReceiver) -> Receiver {
+        if flat.open == 0 {
+            Receiver::Waiting
+        } else {
+            Receiver::Open(flat.count)
+        }
+    }
+}
+
+// ---- a step and a run of it
+
 #[repr(C)]
 #[derive(Clone, Copy)]
 pub struct FlatStepped {
     pub next: FlatReceiver,
     pub event: FlatEvent,
+}
+
+impl From<Stepped> for FlatStepped {
+    ghost from_gives = { λ stepped flat. flat ≡ record { next = flat_receiver stepped.next; event = event_of (paper_event stepped.event) } };
+
+    fn from(stepped: Stepped) -> FlatStepped {
+        FlatStepped {
+            next: stepped.next.into(),
+            event: stepped.event.into(),
+        }
+    }
 }
 
 #[repr(C)]
@@ -64,19 +150,54 @@ pub struct FlatRan {
     pub held: usize,
 }
 
-// The stand-in's answer: kind 0 silence, 1 a reply of so many bytes, 2 refused.
+impl From<Ran> for FlatRan {
+    ghost from_gives = { λ ran flat. flat ≡ record { next = flat_receiver ran.next; event = event_of (paper_event ran.event); taken = ran.taken; held = ran.held } };
+
+    fn from(ran: Ran) -> FlatRan {
+        FlatRan {
+            next: ran.next.into(),
+            event: ran.event.into(),
+            taken: ran.taken,
+            held: ran.held,
+        }
+    }
+}
+
+// ---- the stand-in's answer: kind 0 silence, 1 a reply of so many bytes, 2 refused
+
 #[repr(C)]
-#[derive(Clone, Copy)]
+#[derive(Clone, Copy, Default)]
 pub struct FlatAnswered {
     pub kind: u32,
     pub number: u32,
     pub length: usize,
 }
 
-// A reading: kind 1 read, 2 refused, with 4 and 9 the place of the first character that isn't hex; the 32 bytes of 51H are zeros for every
-// other command and with a refusal.
+impl From<Result<Option<usize>, Refusal>> for FlatAnswered {
+    ghost from_gives = { λ answered flat. flat ≡ answered_of (paper_answered answered) };
+
+    fn from(answered: Result<Option<usize>, Refusal>) -> FlatAnswered {
+        match answered {
+            Ok(None) => FlatAnswered::default(),
+            Ok(Some(length)) => FlatAnswered {
+                kind: 1,
+                length,
+                ..FlatAnswered::default()
+            },
+            Err(refusal) => FlatAnswered {
+                kind: 2,
+                number: u32::from(refusal.number()),
+                ..FlatAnswered::default()
+            },
+        }
+    }
+}
+
+// ---- a reading: kind 1 read, 2 refused, with 4 and 9 the place of the first character that isn't hex; the 32 bytes of 51H are zeros for
+// every other command and with a refusal
+
 #[repr(C)]
-#[derive(Clone, Copy)]
+#[derive(Clone, Copy, Default)]
 pub struct FlatReply {
     pub kind: u32,
     pub number: u32,
@@ -87,7 +208,31 @@ pub struct FlatReply {
     pub place: u32,
 }
 
-// A listing: its receiver, the offset of the next byte, and the totals so far.
+// No `From`: it is made of two values, and a `Reading`, which has both, would bring its table along.
+pub fn reply(outcome: Result<Reply, Fault>, maker: [u8; 32]) -> FlatReply
+    ensures { result ≡ reply_of (paper_reply outcome) maker }
+{
+    match outcome {
+        Ok(reply) => FlatReply {
+            kind: 1,
+            ver: reply.ver,
+            code: reply.code,
+            flag: reply.flag,
+            maker,
+            ..FlatReply::default()
+        },
+        Err(fault) => FlatReply {
+            kind: 2,
+            number: u32::from(fault.refusal.number()),
+            maker,
+            place: fault.place.unwrap_or(0),
+            ..FlatReply::default()
+        },
+    }
+}
+
+// ---- a listing: its receiver, the offset of the next byte, and the totals so far
+
 #[repr(C)]
 #[derive(Clone, Copy)]
 pub struct FlatListing {
@@ -95,6 +240,32 @@ pub struct FlatListing {
     pub offset: u32,
     pub frames: u32,
     pub refusals: u32,
+}
+
+impl From<Listing> for FlatListing {
+    ghost from_gives = { λ listing flat. flat ≡ flat_listing listing };
+
+    fn from(listing: Listing) -> FlatListing {
+        FlatListing {
+            receiver: listing.receiver.into(),
+            offset: listing.offset,
+            frames: listing.frames,
+            refusals: listing.refusals,
+        }
+    }
+}
+
+impl From<FlatListing> for Listing {
+    ghost from_gives = { λ flat listing. listing ≡ listing_back flat };
+
+    fn from(flat: FlatListing) -> Listing {
+        Listing {
+            receiver: flat.receiver.into(),
+            offset: flat.offset,
+            frames: flat.frames,
+            refusals: flat.refusals,
+        }
+    }
 }
 
 #[repr(C)]
@@ -105,211 +276,14 @@ pub struct FlatListed {
     pub written: FlatWritten,
 }
 
-pub fn written(written: Written) -> FlatWritten
-    ensures { result ≡ written_of (paper_written written) }
-{
-    match written {
-        Written::Wrote(n) => FlatWritten {
-            number: 0,
-            length: n,
-        },
-        Written::Refused(refusal) => FlatWritten {
-            number: refusal.number() as u32,
-            length: 0,
-        },
-    }
-}
+impl From<Listed> for FlatListed {
+    ghost from_gives = { λ listed flat. flat ≡ record { next = flat_listing listed.next; taken = listed.taken; written = written_of (paper_written listed.written) } };
 
-pub fn judged(judged: Judged) -> FlatEvent
-    ensures { result ≡ event_of (paper_judged judged) }
-{
-    match judged {
-        Judged::Frame(header, lenid) => FlatEvent {
-            kind: 1,
-            number: 0,
-            ver: header.ver,
-            adr: header.adr,
-            cid1: header.cid1,
-            cid2: header.cid2,
-            place: 0,
-            lenid,
-        },
-        Judged::Refused(refusal) => FlatEvent {
-            kind: 2,
-            number: refusal.number() as u32,
-            ver: 0,
-            adr: 0,
-            cid1: 0,
-            cid2: 0,
-            place: 0,
-            lenid: 0,
-        },
-        Judged::RefusedAt(refusal, place) => FlatEvent {
-            kind: 2,
-            number: refusal.number() as u32,
-            ver: 0,
-            adr: 0,
-            cid1: 0,
-            cid2: 0,
-            place,
-            lenid: 0,
-        },
-    }
-}
-
-pub fn event(event: Event) -> FlatEvent
-    ensures { result ≡ event_of (paper_event event) }
-{
-    match event {
-        Event::Nothing => FlatEvent {
-            kind: 0,
-            number: 0,
-            ver: 0,
-            adr: 0,
-            cid1: 0,
-            cid2: 0,
-            place: 0,
-            lenid: 0,
-        },
-        Event::Frame(header, lenid) => FlatEvent {
-            kind: 1,
-            number: 0,
-            ver: header.ver,
-            adr: header.adr,
-            cid1: header.cid1,
-            cid2: header.cid2,
-            place: 0,
-            lenid,
-        },
-        Event::Refused(refusal) => FlatEvent {
-            kind: 2,
-            number: refusal.number() as u32,
-            ver: 0,
-            adr: 0,
-            cid1: 0,
-            cid2: 0,
-            place: 0,
-            lenid: 0,
-        },
-        Event::RefusedAt(refusal, place) => FlatEvent {
-            kind: 2,
-            number: refusal.number() as u32,
-            ver: 0,
-            adr: 0,
-            cid1: 0,
-            cid2: 0,
-            place,
-            lenid: 0,
-        },
-    }
-}
-
-pub fn receiver(receiver: Receiver) -> FlatReceiver
-    ensures { result ≡ flat_receiver receiver }
-{
-    match receiver {
-        Receiver::Waiting => FlatReceiver { open: 0, count: 0 },
-        Receiver::Open(count) => FlatReceiver { open: 1, count },
-    }
-}
-
-pub fn receiver_of(flat: FlatReceiver) -> Receiver
-    ensures { result ≡ receiver_of flat }
-{
-    if flat.open == 0 {
-        return Receiver::Waiting;
-    }
-    Receiver::Open(flat.count)
-}
-
-pub fn answered(answered: Answered) -> FlatAnswered
-    ensures { result ≡ answered_of (paper_answered answered) }
-{
-    match answered {
-        Answered::Silence => FlatAnswered {
-            kind: 0,
-            number: 0,
-            length: 0,
-        },
-        Answered::Reply(n) => FlatAnswered {
-            kind: 1,
-            number: 0,
-            length: n,
-        },
-        Answered::Refused(refusal) => FlatAnswered {
-            kind: 2,
-            number: refusal.number() as u32,
-            length: 0,
-        },
-    }
-}
-
-pub fn reply(outcome: Outcome, maker: [u8; 32]) -> FlatReply
-    ensures { result ≡ reply_of (paper_reply outcome) maker }
-{
-    match outcome {
-        Outcome::Read(ver, code, flag) => FlatReply {
-            kind: 1,
-            number: 0,
-            ver,
-            code,
-            flag,
-            maker,
-            place: 0,
-        },
-        Outcome::Refused(refusal) => FlatReply {
-            kind: 2,
-            number: refusal.number() as u32,
-            ver: 0,
-            code: 0,
-            flag: 0,
-            maker,
-            place: 0,
-        },
-        Outcome::RefusedAt(refusal, place) => FlatReply {
-            kind: 2,
-            number: refusal.number() as u32,
-            ver: 0,
-            code: 0,
-            flag: 0,
-            maker,
-            place,
-        },
-    }
-}
-
-pub fn listing(listing: Listing) -> FlatListing
-    ensures { result ≡ flat_listing listing }
-{
-    let inner = listing.receiver;
-    FlatListing {
-        receiver: receiver(inner),
-        offset: listing.offset,
-        frames: listing.frames,
-        refusals: listing.refusals,
-    }
-}
-
-pub fn listing_of(flat: FlatListing) -> Listing
-    ensures { result ≡ listing_back flat }
-{
-    let outer = flat.receiver;
-    Listing {
-        receiver: receiver_of(outer),
-        offset: flat.offset,
-        frames: flat.frames,
-        refusals: flat.refusals,
-    }
-}
-
-pub fn listed(listed: Listed) -> FlatListed
-    ensures { result ≡ record { next = flat_listing listed.next; taken = listed.taken; written = written_of (paper_written listed.written) } }
-{
-    let next = listed.next;
-    let said = listed.written;
-    FlatListed {
-        next: listing(next),
-        taken: listed.taken,
-        written: written(said),
+    fn from(listed: Listed) -> FlatListed {
+        FlatListed {
+            next: listed.next.into(),
+            taken: listed.taken,
+            written: listed.written.into(),
+        }
     }
 }

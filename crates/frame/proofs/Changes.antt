@@ -1,15 +1,17 @@
 -- What tells one whole encoding from another that is nearly the same: CHKSUM covers LENGTH too, so two sealed lists that differ at one place do not differ.
 use Rattle.std.proofs.Common.{◌≡◌, ℕ, ◌+◌, ◌*◌, ◌%◌, ◌<◌, ◌≤◌, cond, ltb, List, [], ◌∷◌, ◌++◌, length, drop, sym, refl, ap, ◌∙◌, subst, inl, inr, append_assoc, arith, ltb→lt, nltb→le, length-append}
-use mathlib.Core.List.{head-eq_of_cons-eq, tail-eq_of_cons-eq, append_cancel_left}
-use lib.ListN.{get_or-append}
-use lib.Seq.{append_snoc}
+use mathlib.Core.List.{head-eq_of_cons-eq, tail-eq_of_cons-eq}
+use Rattle.std.proofs.lemmas.List.{append_cancel_left}
+use Rattle.std.proofs.Math.ListN.{get_or-append}
+use Rattle.std.proofs.Math.Seq.{append_snoc}
 use Rattle.buffer.proofs.Lists.{by_cond, cancel, levi, Levi}
 use Rattle.hex_chars.specs.Hex.{hexes, word, byte_at, word_at, unhexes, Bytes}
 use Rattle.hex_chars.proofs.Laws.{Hexy, hexy-cut, said-range, length-hexes, unhexes-hexes, word-hexes}
 use Rattle.frame.specs.declared.Header.{Header}
-use Rattle.frame.specs.Frame.{length_of, sum, chksum, packed, seal, chars, Encodes, Whole}
+use Rattle.frame.specs.Frame.{length_of, chksum, packed, seal, chars, Encodes, Whole}
 use Rattle.frame.specs.Judge.{refused, lenid, judge}
-use Rattle.frame.proofs.Steps.{sum-join}
+use Rattle.std.specs.List.{sum}
+use Rattle.frame.proofs.Steps.{sum-join, sum-more}
 use Rattle.frame.proofs.Judging.{chars-read, length-fits, chksum-fits, bytes_packed, short-refused, count-refused, whole-good, whole-count}
 
 -- ---- a sealed list: characters and their CHKSUM
@@ -42,7 +44,7 @@ seal-cut s t b l e = cancel s t b (tail b) (l ∙ sym (length-tail b)) e
 -- two sealed lists that differ at one place at most do not differ there
 one_place : (x : List ℕ) (a a' : ℕ) (y b b' : List ℕ) → a < 65536 → a' < 65536
     → x ++ a ∷ y ≡ seal b → x ++ a' ∷ y ≡ seal b' → a ≡ a'
-unfolding seal tail sum
+unfolding seal tail
 one_place x a a' y b b' h h' e e' = go (levi b (tail b) x (a ∷ y) (sym e))
   where
     go : Levi b (tail b) x (a ∷ y) → a ≡ a'
@@ -55,26 +57,25 @@ one_place x a a' y b b' h h' e e' = go (levi b (tail b) x (a ∷ y) (sym e))
     go (inr (w, z, p, q)) =
         let k = seal-cut (x ++ a' ∷ z) (tail b) b' (length-tail b)
         (append_assoc x (a' ∷ z) (tail b) ∙ ap (λ (t : List ℕ). x ++ a' ∷ t) (sym (tail-eq_of_cons-eq q)) ∙ e') in
-        omega (arith, tail-sum b b' k.1, head-eq_of_cons-eq q, ap sum p, ap sum k.0, sum-join x (w ∷ z), sum-join x (a' ∷ z))
+        omega (arith, tail-sum b b' k.1, head-eq_of_cons-eq q, ap sum p, ap sum k.0, sum-join x (w ∷ z), sum-join x (a' ∷ z), sum-more w z, sum-more a' z)
 
 sum-range : (c : List ℕ) → Hexy c → (48 * length c ≤ sum c) × (sum c ≤ 70 * length c)
-unfolding sum
 sum-range [] h = (omega arith, omega arith)
 sum-range (x ∷ c) h =
     let r = sum-range c h.1 in
     let q = said-range x h.0 in
-    (omega arith, omega arith)
+    (omega (arith, sum-more x c), omega (arith, sum-more x c))
 
 shift : (m s : ℕ) → s % 65536 ≡ (m + s) % 65536 → 0 < m → 65536 ≤ m
 shift m s e h = omega arith
 
 -- a sealed list that ends in another is at least 937 characters longer: each adds 70 at most, and together they add 65,536
 suffix : (x : List ℕ) (a : ℕ) (b d : List ℕ) → Hexy (x ++ a ∷ []) → x ++ a ∷ seal d ≡ seal b → 936 ≤ length x
-unfolding seal tail sum
+unfolding seal tail
 suffix x a b d h e =
     let k = seal-cut (x ++ a ∷ d) (tail d) b (length-tail d) (append_assoc x (a ∷ d) (tail d) ∙ e) in
     let r = sum-range (x ++ a ∷ []) h in
-    let z : sum d % 65536 ≡ (sum x + a + sum d) % 65536 = omega (arith, tail-sum d b k.1, ap sum k.0, sum-join x (a ∷ d)) in
+    let z : sum d % 65536 ≡ (sum x + a + sum d) % 65536 = omega (arith, tail-sum d b k.1, ap sum k.0, sum-join x (a ∷ d), sum-more a d) in
     let m : sum (x ++ a ∷ []) ≡ sum x + a = omega (arith, sum-join x (a ∷ [])) in
     let l : length (x ++ a ∷ []) ≡ length x + 1 = length-append x (a ∷ []) in
     omega (arith, shift (sum x + a) (sum d) z (omega arith))

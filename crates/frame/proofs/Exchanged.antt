@@ -1,14 +1,16 @@
 -- Two neighbours exchanged: where LENGTH and CHKSUM stay, the sum does not see it; where one of the two stands in them, not both orders are whole encodings.
 use Rattle.std.proofs.Common.{◌≡◌, ℕ, zero, suc, ◌+◌, ◌-◌, ◌*◌, ◌%◌, ◌<◌, ◌≤◌, ◌⊎◌, List, [], ◌∷◌, ◌++◌, length, get_or, take, drop, sym, ap, ◌∙◌, subst, inl, inr, append_assoc, arith, length-append, length-drop, take-append-drop, length-take-le, take_at, get_or-append-add}
-use mathlib.Core.List.{head-eq_of_cons-eq, append_cancel_left}
-use native.Mathlib.Decide.{dec_lt}
-use lib.ListN.{get_or-append}
-use lib.Seq.{append_snoc, get_or-append_seam}
+use mathlib.Core.List.{head-eq_of_cons-eq}
+use Rattle.std.proofs.lemmas.List.{append_cancel_left}
+use Rattle.std.proofs.Math.Decide.{dec_lt}
+use Rattle.std.proofs.Math.ListN.{get_or-append}
+use Rattle.std.proofs.Math.Seq.{append_snoc, get_or-append_seam}
 use Rattle.hex_chars.specs.Hex.{digit_of, char_of, byte_of, byte_at, word_at}
 use Rattle.hex_chars.proofs.Laws.{said, Hexy, hexy-cut, hexy-join, digit_char, digit-small, digit-said, char-said, said-range, word-seam}
-use Rattle.frame.specs.Frame.{length_of, sum, chksum, Whole, Frames}
+use Rattle.frame.specs.Frame.{length_of, chksum, Whole, Frames}
 use Rattle.frame.specs.Judge.{header, lenid}
-use Rattle.frame.proofs.Steps.{sum-join}
+use Rattle.std.specs.List.{sum}
+use Rattle.frame.proofs.Steps.{sum-join, sum-more}
 use Rattle.frame.proofs.Judging.{Good, good-judge, judge-accepts, length_whole, whole-good}
 use Rattle.frame.proofs.Changes.{tail, tail-word, seal-cut, whole-seal}
 
@@ -62,7 +64,6 @@ one-length c d w v e =
 -- ---- the sum of all characters and CHKSUM is 0, in its three low digits too
 
 sum-snoc : (x : List ℕ) (p : ℕ) → sum (x ++ p ∷ []) ≡ sum x + p
-unfolding sum
 sum-snoc x p = omega (arith, sum-join x (p ∷ []))
 
 low-digits : (c : List ℕ) (s p d r : ℕ) → sum c ≡ s + p → d * 4096 + r ≡ chksum c → (s + r + p) % 4096 ≡ 0
@@ -104,9 +105,9 @@ module _ (x : List ℕ) (a b : ℕ) (y : List ℕ) where
         (ap (take m) is ∙ take_at s t m size, ap (λ (l : List ℕ). word_at l m) is ∙ ap (word_at (s ++ t)) (sym size) ∙ word-seam s t)
 
     one-sum : chksum (x ++ a ∷ b ∷ summed) ≡ chksum (x ++ b ∷ a ∷ summed)
-    unfolding chksum sum
+    unfolding chksum
     one-sum =
-        let e : sum (x ++ a ∷ b ∷ summed) ≡ sum (x ++ b ∷ a ∷ summed) = omega (arith, sum-join x (a ∷ b ∷ summed), sum-join x (b ∷ a ∷ summed)) in
+        let e : sum (x ++ a ∷ b ∷ summed) ≡ sum (x ++ b ∷ a ∷ summed) = omega (arith, sum-join x (a ∷ b ∷ summed), sum-join x (b ∷ a ∷ summed), sum-more a (b ∷ summed), sum-more b (a ∷ summed), sum-more a summed, sum-more b summed) in
         ap (λ (s : ℕ). (65536 - s % 65536) % 65536) e
 
     good-exchanged : Beside → Good (x ++ a ∷ b ∷ y) → Good (x ++ b ∷ a ∷ y) × (lenid (x ++ a ∷ b ∷ y) ≡ lenid (x ++ b ∷ a ∷ y))

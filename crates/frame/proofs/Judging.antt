@@ -1,8 +1,8 @@
 -- The judge accepts exactly the whole encodings, with their header and LENID: the seven tests as facts, and the characters laid out for any LENGTH and CHKSUM.
 use Rattle.std.proofs.Common.{◌≡◌, ℕ, ◌+◌, ◌*◌, ◌/◌, ◌%◌, ◌<◌, ◌≤◌, Bool, true, false, cond, not, T, ◌≢◌, ◌↔◌, List, [], ◌∷◌, ◌++◌, length, take, sym, refl, ap, ◌∙◌, subst, ap₂, arith, le→leb, eqb→eq, leb→le, length-append, take_at}
 use mathlib.Core.List.{Memᴰ as Among}
-use mir.Facts.{yes_eqb}
-use Rattle.buffer.proofs.Lists.{by_cond, never}
+use Rattle.std.proofs.Math.Facts.{yes_eqb}
+use Rattle.buffer.proofs.Lists.{by_cond}
 use Rattle.hex_chars.specs.Hex.{all_hex, hexes, word, byte_at, word_at, unhexes, Bytes}
 use Rattle.hex_chars.proofs.Laws.{Hexy, hexy-yes, yes-hexy, hexy-join, hexy-hexes, length-hexes, hexes-join, byte_pair, word-pairs, word-hexes, word-seam, bytes_word, bytes_cut, bytes-unhexes, hexes-unhexes}
 use Rattle.frame.specs.declared.Header.{Header}
@@ -18,7 +18,7 @@ need-gives u other true n t e = (tt, e)
 need-gives u other false n t e = absurd (other n e)
 
 need-frame : (b : Bool) (n : ℕ) (t : Told) (h : Header) (k : ℕ) → need b n t ≡ frame h k → T b × (t ≡ frame h k)
-need-frame b n t h k = need-gives (frame h k) (λ n e. never (cc)) b n t
+need-frame b n t h k = need-gives (frame h k) (λ n e. cc) b n t
 
 pub need-yes : (b : Bool) (n : ℕ) (t : Told) → T b → need b n t ≡ t
 unfolding need
@@ -45,7 +45,7 @@ cond_yes true t u y = refl
 cond_yes false t u y = absurd y
 
 hex-frame : (c : List ℕ) (t : Told) (h : Header) (n : ℕ) → need_hex c t ≡ frame h n → T (all_hex c) × (t ≡ frame h n)
-hex-frame c t h n = by_cond (λ (u : Told). u ≡ frame h n → T (all_hex c) × (t ≡ frame h n)) (all_hex c) (λ yes e. (yes, e)) (λ no e. never (cc))
+hex-frame c t h n = by_cond (λ (u : Told). u ≡ frame h n → T (all_hex c) × (t ≡ frame h n)) (all_hex c) (λ yes e. (yes, e)) (λ no e. cc)
 
 hex-yes : (c : List ℕ) (t : Told) → Hexy c → need_hex c t ≡ t
 hex-yes c t h = cond_yes (all_hex c) t _ (yes-hexy c h)
@@ -92,10 +92,10 @@ accepted c = passes _ 1 _ (passes _ 3 _ (hexed _ (passes _ 5 _ (passes _ 6 _ (pa
     Is t = is_refusal t ≡ false → t ≡ frame (header c) (lenid c)
 
     passes : (b : Bool) (n : ℕ) (t : Told) → Is t → Is (need b n t)
-    passes b n t rest = need-by Is b n t (λ _. rest) (λ _ no. never (cc))
+    passes b n t rest = need-by Is b n t (λ _. rest) (λ _ no. cc)
 
     hexed : (t : Told) → Is t → Is (need_hex c t)
-    hexed t rest = by_cond Is (all_hex c) (λ _. rest) (λ _ no. never (cc))
+    hexed t rest = by_cond Is (all_hex c) (λ _. rest) (λ _ no. cc)
 
 -- ---- LENGTH and CHKSUM are of sixteen bits
 

@@ -1,3 +1,4 @@
+pub mod Answered
 pub mod Judging
 pub mod Changes
 pub mod Exchanged

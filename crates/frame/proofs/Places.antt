@@ -1,22 +1,21 @@
 -- A refusal with a place comes of the one test that gives it: it has passed the two before it, and none behind it gives one.
 use Rattle.std.proofs.Common.{◌≡◌, ℕ, ◌≤◌, Bool, true, false, cond, T, ◌↔◌, List, ◌∷◌, ◌++◌, length, get_or, sym, refl, ap, ◌∙◌, subst, arith, le→leb, leb→le, length-append, take_at}
-use lib.Seq.{get_or-append_seam}
+use Rattle.std.proofs.Math.Seq.{get_or-append_seam}
 use denote.Floats.{is_true}
-use Rattle.buffer.proofs.Lists.{never}
 use Rattle.refusal.specs.declared.Refusal.{Refusal}
 use Rattle.refusal.specs.Number.{number}
 use Rattle.hex_chars.specs.Hex.{is_hex, all_hex, bad_place, FirstBad}
 use Rattle.hex_chars.proofs.Laws.{Hexy, yes-hexy}
 use Rattle.hex_chars.proofs.Bad.{bad-place-first, bad-place-one}
 use Rattle.frame.specs.declared.Header.{Header}
-use Rattle.frame.specs.declared.Judged.TheVariants.{RefusedAt}
 use Rattle.frame.specs.Judge.{Told, frame, refused_at, need, bad_number, need_hex, header, lenid, judge, Judges}
 use Rattle.frame.specs.Place.{Placed}
+use Rattle.frame.specs.Answered.{refused_at_by}
 use Rattle.frame.proofs.Judging.{need-gives, need-yes}
 
 module _ (k p : ℕ) where
   need-at : (b : Bool) (n : ℕ) (t : Told) → need b n t ≡ refused_at k p → T b × (t ≡ refused_at k p)
-  need-at = need-gives (refused_at k p) (λ n e. never (cc))
+  need-at = need-gives (refused_at k p) (λ n e. cc)
 
   hex-at : (c : List ℕ) (t : Told) → (t ≡ refused_at k p → ⊥) → need_hex c t ≡ refused_at k p → (all_hex c ≡ false) × (refused_at (bad_number (get_or c (bad_place c) 0)) (bad_place c) ≡ refused_at k p)
   hex-at c t none = go (all_hex c) refl
@@ -27,7 +26,7 @@ module _ (k p : ℕ) where
       go false h e = (h, e)
 
   frame_at : (h : Header) (n : ℕ) → frame h n ≡ refused_at k p → ⊥
-  frame_at h n e = never (cc)
+  frame_at h n e = cc
 
   pub placed : (c : List ℕ) → (judge c ≡ refused_at k p) ↔ Placed c k p
   unfolding judge
@@ -72,5 +71,5 @@ bad-refused u b v h odd long few =
     })
 
 -- of any answer that the judge's contract allows
-pub judges-placed : (c : List ℕ) (r : Refusal) (p : ℕ) → Judges c (RefusedAt r p) ↔ Placed c (number r) p
+pub judges-placed : (c : List ℕ) (r : Refusal) (p : ℕ) → Judges c (refused_at_by r p) ↔ Placed c (number r) p
 judges-placed c r p = let e = placed (number r) p c in (λ j. e.0 (sym j), λ f. sym (e.1 f))

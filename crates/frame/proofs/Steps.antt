@@ -1,45 +1,43 @@
 -- What the functions lean on: a turn, a block and the end of the sum, LENGTH within sixteen bits, and the parts of a written frame.
-use Rattle.std.proofs.Common.{◌≡◌, ℕ, ◌+◌, ◌-◌, ◌*◌, ◌%◌, ◌<◌, ◌≤◌, List, [], ◌∷◌, ◌++◌, length, get_or, take, drop, sym, ap, ◌∙◌, subst, append_assoc, arith, length-append, take-append-drop, drop_of_length-le, drop-drop, take_at}
+use Rattle.std.proofs.Common.{◌≡◌, ℕ, ◌/◌, ◌+◌, ◌-◌, ◌*◌, ◌%◌, ◌<◌, ◌≤◌, List, [], ◌∷◌, ◌++◌, length, get_or, take, drop, sym, ap, ◌∙◌, subst, append_assoc, arith, length-append, take_at, take-add}
+use Rattle.std.specs.List.{sum}
+use Rattle.std.specs.Simd.{first_chunks}
+use Rattle.std.proofs.lemmas.List.Sums.{sum_by-append, sum_by-cons, sum_by-take-drop}
 use Rattle.buffer.specs.Put.{Put, Room}
-use Rattle.buffer.proofs.Lists.{left_at}
+use Rattle.buffer.proofs.Lists.{chunk_at}
 use Rattle.buffer.proofs.Puts.{puts-front, put_then}
 use Rattle.hex_chars.specs.Hex.{hexes, word}
 use Rattle.hex_chars.proofs.Laws.{hexes-join, length-hexes}
 use Rattle.frame.specs.declared.Header.{Header}
-use Rattle.frame.specs.Frame.{SOI, CR, lchksum, length_of, sum, chksum, packed, seal, chars, encode}
+use Rattle.frame.specs.Frame.{SOI, CR, lchksum, length_of, chksum, packed, seal, chars, encode}
 use Rattle.frame.proofs.Judging.{length-packed}
 
-pub sum-turn : (s : List ℕ) (i total : ℕ) → i < length s → (total + sum (drop i s)) % 65536 ≡ sum s % 65536
-    → ((total + get_or s i 0) % 65536 + sum (drop (i + 1) s)) % 65536 ≡ sum s % 65536
-unfolding sum
-sum-turn s i total h e = let t = ap sum (left_at s i h) in omega arith
-
-pub sum_left : (s : List ℕ) (i total : ℕ) → length s ≤ i → (total + sum (drop i s)) % 65536 ≡ sum s % 65536 → total < 65536 → total ≡ sum s % 65536
-unfolding sum
-sum_left s i total h e f = let t = ap sum (drop_of_length-le s h) in omega arith
-
 pub sum-join : (s t : List ℕ) → sum (s ++ t) ≡ sum s + sum t
-unfolding sum
-sum-join [] t = omega arith
-sum-join (c ∷ s) t = omega (arith, sum-join s t)
+sum-join s t = sum_by-append (λ x. x) s t
 
--- a block more: what was added, and what is left
-pub sum-block : (s : List ℕ) (i k total here : ℕ) → here ≡ sum (take k (drop i s)) % 65536 → (total + sum (drop i s)) % 65536 ≡ sum s % 65536
-    → ((total + here) % 65536 + sum (drop (i + k) s)) % 65536 ≡ sum s % 65536
-sum-block s i k total here h e =
-    let cut : sum (drop i s) ≡ sum (take k (drop i s)) + sum (drop (i + k) s) =
-    ap sum (sym (take-append-drop k (drop i s))) ∙ sum-join (take k (drop i s)) (drop k (drop i s)) ∙ ap (λ (l : List ℕ). sum (take k (drop i s)) + sum l) (drop-drop k i s) in
-    omega arith
+pub sum-more : (c : ℕ) (s : List ℕ) → sum (c ∷ s) ≡ c + sum s
+sum-more c s = sum_by-cons (λ x. x) c s
 
--- the sum of all, taken from zero
-pub sum-end : (s : List ℕ) (i total here all r : ℕ) → here ≡ sum (drop i s) % 65536 → (total + sum (drop i s)) % 65536 ≡ sum s % 65536 → all ≡ (total + here) % 65536 → r < 65536
-    → (r + all) % 65536 ≡ 0 → r ≡ chksum s
+-- the sum with one block more
+pub sum_block : (s : List ℕ) (k i rest total here : ℕ) (d : List ℕ) → i < k → here ≡ sum (get_or (first_chunks 64 k s) i d) % 65536
+    → total ≡ (rest + sum (take (64 * i) s)) % 65536 → (total + here) % 65536 ≡ (rest + sum (take (64 * (i + 1)) s)) % 65536
+sum_block s k i rest total here d h e f =
+    let more : sum (take (64 * (i + 1)) s) ≡ sum (take (64 * i) s) + sum (take 64 (drop (64 * i) s)) = (let e : 64 * (i + 1) ≡ 64 * i + 64 = omega arith in ap (λ (n : ℕ). sum (take n s)) e) ∙ ap sum (take-add (64 * i) 64 s) ∙ sum-join (take (64 * i) s) (take 64 (drop (64 * i) s)) in
+    omega (arith, more, e ∙ ap (λ (l : List ℕ). sum l % 65536) (chunk_at 64 k i s d h))
+
+-- the sum of all blocks and of what fills none, taken from zero
+pub sum_all : (s : List ℕ) (total r : ℕ) → total ≡ (sum (drop (length s / 64 * 64) s) + sum (take (64 * (length s / 64)) s)) % 65536 → r < 65536 → (r + total) % 65536 ≡ 0
+    → r ≡ chksum s
 unfolding chksum
-sum-end s i total here all r h e a f z = omega arith
+sum_all s total r e f z =
+    let same : 64 * (length s / 64) ≡ length s / 64 * 64 = omega arith in
+    omega (arith, ap (λ (k : ℕ). sum (take k s)) same, sum_by-take-drop (λ x. x) s (length s / 64 * 64))
 
 pub lchksum-small : (n : ℕ) → lchksum n < 16
 unfolding lchksum
 lchksum-small n = omega arith
+
+pub ruleset small = (lchksum-small)
 
 pub length-chars : (h : Header) (info : List ℕ) → length (chars h info) ≡ 16 + 2 * length info
 unfolding chars seal
@@ -51,6 +49,10 @@ length-chars h info =
 pub length-encode : (h : Header) (info : List ℕ) → length (encode h info) ≡ 18 + 2 * length info
 unfolding encode
 length-encode h info = omega (arith, length-append (chars h info) (CR ∷ []), length-chars h info)
+
+pub ruleset lengths = (length-encode, length-packed, length-hexes)
+
+pub ruleset written = (length-encode, puts-front)
 
 -- what was put behind the first byte of a buffer
 behind : (out out' : List ℕ) (x : ℕ) (text : List ℕ) (end : ℕ) → Put out 0 (x ∷ text) out' end → take (end - 1) (drop 1 out') ≡ text

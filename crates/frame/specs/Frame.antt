@@ -1,5 +1,5 @@
 -- The frame: SOI, VER, ADR, CID1, CID2, LENGTH, INFO, CHKSUM, EOI, with two hex characters for each byte between SOI and EOI.
-use Rattle.std.specs.Prelude.{◌≡◌, ℕ, ◌+◌, ◌-◌, ◌*◌, ◌/◌, ◌%◌, ◌≤◌, List, [], ◌∷◌, ◌++◌, length, take, drop}
+use Rattle.std.specs.Prelude.{◌≡◌, ℕ, ◌+◌, ◌-◌, ◌*◌, ◌/◌, ◌%◌, ◌≤◌, List, [], ◌∷◌, ◌++◌, length, take, drop, sum}
 use Rattle.hex_chars.specs.Hex.{hexes, word, Bytes}
 use Rattle.frame.specs.declared.Header.{Header}
 
@@ -19,10 +19,6 @@ unfoldable pub length_of : ℕ → ℕ
 length_of lenid = lchksum lenid * 4096 + lenid
 
 -- CHKSUM: the values of all characters are added modulo 65,536, then taken from 65,536; remainder 0 gives 0
-unfoldable pub sum : List ℕ → ℕ
-sum [] = 0
-sum (c ∷ cs) = c + sum cs
-
 unfoldable pub chksum : List ℕ → ℕ
 chksum cs = (65536 - sum cs % 65536) % 65536
 

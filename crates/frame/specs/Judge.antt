@@ -1,10 +1,11 @@
 -- The judge of a stretch of characters: 1, 3, 4 or 9, 5 to 8, the first that applies, or the frame. 4 and 9 say the place of a character too.
-use Rattle.std.specs.Prelude.{◌≡◌, ℕ, ◌+◌, ◌/◌, ◌%◌, Bool, true, false, cond, ◌||◌, List, length, take, ◌==◌, nat_le, slice_index}
+use Rattle.std.specs.Prelude.{◌≡◌, ℕ, ◌+◌, ◌/◌, ◌%◌, Bool, true, false, cond, ◌||◌, List, length, take, ◌==◌, nat_le, slice_index, Option, Some, None, Result, Ok, Err}
 use Rattle.refusal.specs.Number.{number}
 use Rattle.hex_chars.specs.Hex.{all_hex, bad_place, is_lower, byte_at, word_at}
 use Rattle.frame.specs.declared.Header.{Header}
-use Rattle.frame.specs.declared.Judged.{Judged}
-use Rattle.frame.specs.declared.Judged.TheVariants.{Frame, Refused, RefusedAt}
+use Rattle.refusal.specs.declared.Refusal.{Refusal}
+use Rattle.frame.specs.declared.Frame.{Frame}
+use Rattle.frame.specs.declared.Fault.{Fault}
 use Rattle.frame.specs.Frame.{lchksum, chksum}
 
 -- what is told: nothing, a frame with its four bytes and LENID, a refusal with its number, or one with its number and a character's place
@@ -20,11 +21,17 @@ is_refusal (frame h n) = false
 is_refusal (refused k) = true
 is_refusal (refused_at k p) = true
 
--- the paper's number and values of a judgement
-abbrev pub paper : Judged → Told
-paper (Frame h n) = frame h n
-paper (Refused r) = refused (number r)
-paper (RefusedAt r p) = refused_at (number r) p
+-- the paper's number and values of a refusal with its place, if it has one, and of a judgement
+abbrev pub refusal_told : Refusal → Option ℕ → Told
+refusal_told r None = refused (number r)
+refusal_told r (Some p) = refused_at (number r) p
+
+abbrev pub fault_told : Fault → Told
+fault_told f = refusal_told f.refusal f.place
+
+abbrev pub paper : Result Frame Fault → Told
+paper (Ok f) = frame f.header f.lenid
+paper (Err f) = fault_told f
 
 -- the refusal with number n, unless the test passes
 unfoldable pub need : Bool → ℕ → Told → Told
@@ -62,5 +69,5 @@ judge c =
     (frame (header c) (lenid c))))))))
 
 -- the contract of the judge
-abbrev pub Judges : List ℕ → Judged → Type 0
+abbrev pub Judges : List ℕ → Result Frame Fault → Type 0
 Judges c judged = paper judged ≡ judge c

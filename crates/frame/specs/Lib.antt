@@ -1,3 +1,4 @@
+pub mod Answered
 pub mod Frame
 pub mod Judge
 pub mod Place

@@ -1,160 +1,85 @@
-// The group writers: INFO of 42H and 44H for Command FFH, with the records of the members that are on, in rising ADR.
+// The group writer: INFO of 42H or 44H for Command FFH, with the records of the members that are on, in rising ADR.
 
 #![tactic(auto)]
 
-ghost use Rattle.std.specs.Prelude.{◌≡◌, true, ◌+◌, ◌<◌, length};
+ghost use Rattle.std.specs.Prelude.{◌≡◌, true, ◌<◌, ◌≤◌, length};
 ghost use Rattle.buffer.specs.Put.{Room, Put};
 ghost use Rattle.buffer.specs.Writing.{Writes};
-ghost use Rattle.record.specs.Analog.{analog as analog_record};
-ghost use Rattle.record.specs.Alarm.{alarm as alarm_record};
 ghost use Rattle.table.specs.Table.{members};
-ghost use Rattle.table.specs.Rule.{keeps};
-ghost use Rattle.groups.specs.Groups.{analog_group_writing, alarm_group_writing};
-ghost use Rattle.groups.specs.Texts.{text_on, text_of_all, analog_text, alarm_text};
+ghost use Rattle.table.specs.Rule.{encodable, keeps};
+ghost use Rattle.groups.specs.Groups.{group_writing};
+ghost use Rattle.groups.specs.Texts.{part_text, text_on, text_of_all};
 
-use buffer::Written;
 use record::Module;
 use refusal::Refusal;
 use table::Table;
-
-// ---- 42H
+use table::part::Part;
+use table::rule::Ruled;
 
 // How many bytes a member's record takes: none where it is off.
-fn analog_size_on(member: Module) -> usize
-    requires { analog_record.ok member.analog ≡ true }
-    ensures { (result ≡ length (text_on analog_text member)) × (result < 2000) }
+#[tactic(auto, unfolding(crate::specs::Texts::text_on))]
+fn size_on<P: Part>(member: &Module) -> usize
+    requires { encodable member.now ≡ true }
+    ensures value { result ≡ length (text_on (part_text P.codec P.part) member.now) }
+    ensures few { result < 2000 }
 {
     if member.on == 1 {
-        let analog = member.analog;
-        return analog::writer::analog_size(analog);
+        P::size(P::part_of(member))
+    } else {
+        0
     }
-    0
 }
 
-fn analog_group_size(table: Table) -> usize
-    requires { keeps table ≡ true }
-    ensures { result ≡ 2 + length (text_of_all analog_text (members table)) }
+// How many bytes the records of all members take.
+#[tactic(auto, using(crate::proofs::Texts::sizes))]
+fn size_of_all<P: Part>(ruled: &Ruled<'_>) -> usize
+    ensures value { result ≡ length (text_of_all (part_text P.codec P.part) (members ruled.now.table.now)) }
+    ensures few { result ≤ 24000 }
 {
-    let count = table.count;
-    let mut size: usize = 2;
-    let mut i: usize = 0;
-    while i < count {
-        let member = table.modules[i];
-        size += analog_size_on(member);
-        i += 1;
+    let members = ruled.table.members();
+    let mut size = 0;
+    for member in members {
+        size += size_on::<P>(member);
     }
     size
 }
 
-fn put_analog_on(out: &mut [u8], at: usize, member: Module) -> usize
-    requires { (analog_record.ok member.analog ≡ true) × Room out.old at (text_on analog_text member) }
-    ensures { Put out.old at (text_on analog_text member) out.new result }
+// A member's record, or nothing where it is off.
+#[tactic(auto, using(crate::proofs::Texts::puts_on), unfolding(crate::specs::Texts::text_on))]
+fn put_on<P: Part>(out: &mut [u8], at: usize, member: &Module) -> usize
+    requires ok { encodable member.now ≡ true }
+    requires room { Room out.old at (text_on (part_text P.codec P.part) member.now) }
+    ensures { Put out.old at (text_on (part_text P.codec P.part) member.now) out.new result }
 {
     if member.on == 1 {
-        let analog = member.analog;
-        return analog::writer::put_analog(out, at, analog);
+        P::put(out, at, P::part_of(member))
+    } else {
+        at
     }
-    at
 }
 
-fn put_analogs(out: &mut [u8], at: usize, table: Table) -> usize
-    requires { (keeps table ≡ true) × Room out.old at (text_of_all analog_text (members table)) }
-    ensures { Put out.old at (text_of_all analog_text (members table)) out.new result }
+// The records of all members.
+#[tactic(auto, using(crate::proofs::Texts::puts))]
+fn put_all_on<P: Part>(out: &mut [u8], at: usize, ruled: &Ruled<'_>) -> usize
+    requires { Room out.old at (text_of_all (part_text P.codec P.part) (members ruled.now.table.now)) }
+    ensures { Put out.old at (text_of_all (part_text P.codec P.part) (members ruled.now.table.now)) out.new result }
 {
-    let count = table.count;
+    let members = ruled.table.members();
     let mut next = at;
-    let mut i: usize = 0;
-    while i < count {
-        let member = table.modules[i];
-        next = put_analog_on(out, next, member);
-        i += 1;
+    for member in members {
+        next = put_on::<P>(out, next, member);
     }
     next
 }
 
-// Flag, FFH, and the analog records of the members that are on: 31, then 32.
-pub fn write_analog_group(out: &mut [u8], flag: u8, table: Table) -> Written
-    ensures { Writes (analog_group_writing (keeps table) flag (members table) out.old) result out.new }
+// Flag, FFH, and the records of the members that are on: 31, then 32.
+pub fn write_group<P: Part>(out: &mut [u8], flag: u8, table: Table) -> Result<usize, Refusal>
+    ensures { Writes (group_writing P.codec P.some P.part (keeps table) flag (members table) out.old) result out.new }
 {
-    if !table::rule::keeps_rule(table) {
-        return Written::Refused(Refusal::TableBreaksRule);
+    let ruled = Ruled::judge(&table)?;
+    if out.len() < 2 + size_of_all::<P>(&ruled) {
+        return Err(Refusal::BufferTooShort);
     }
-    if out.len() < analog_group_size(table) {
-        return Written::Refused(Refusal::BufferTooShort);
-    }
-    let at1 = buffer::put(out, 0, flag);
-    let at2 = buffer::put(out, at1, 0xFF);
-    let end = put_analogs(out, at2, table);
-    Written::Wrote(end)
-}
-
-// ---- 44H
-
-// How many bytes a member's record takes: none where it is off.
-fn alarm_size_on(member: Module) -> usize
-    requires { alarm_record.ok member.alarm ≡ true }
-    ensures { (result ≡ length (text_on alarm_text member)) × (result < 2000) }
-{
-    if member.on == 1 {
-        let alarm = member.alarm;
-        return alarm::writer::alarm_size(alarm);
-    }
-    0
-}
-
-fn alarm_group_size(table: Table) -> usize
-    requires { keeps table ≡ true }
-    ensures { result ≡ 2 + length (text_of_all alarm_text (members table)) }
-{
-    let count = table.count;
-    let mut size: usize = 2;
-    let mut i: usize = 0;
-    while i < count {
-        let member = table.modules[i];
-        size += alarm_size_on(member);
-        i += 1;
-    }
-    size
-}
-
-fn put_alarm_on(out: &mut [u8], at: usize, member: Module) -> usize
-    requires { (alarm_record.ok member.alarm ≡ true) × Room out.old at (text_on alarm_text member) }
-    ensures { Put out.old at (text_on alarm_text member) out.new result }
-{
-    if member.on == 1 {
-        let alarm = member.alarm;
-        return alarm::writer::put_alarm(out, at, alarm);
-    }
-    at
-}
-
-fn put_alarms(out: &mut [u8], at: usize, table: Table) -> usize
-    requires { (keeps table ≡ true) × Room out.old at (text_of_all alarm_text (members table)) }
-    ensures { Put out.old at (text_of_all alarm_text (members table)) out.new result }
-{
-    let count = table.count;
-    let mut next = at;
-    let mut i: usize = 0;
-    while i < count {
-        let member = table.modules[i];
-        next = put_alarm_on(out, next, member);
-        i += 1;
-    }
-    next
-}
-
-// Flag, FFH, and the alarm records of the members that are on: 31, then 32.
-pub fn write_alarm_group(out: &mut [u8], flag: u8, table: Table) -> Written
-    ensures { Writes (alarm_group_writing (keeps table) flag (members table) out.old) result out.new }
-{
-    if !table::rule::keeps_rule(table) {
-        return Written::Refused(Refusal::TableBreaksRule);
-    }
-    if out.len() < alarm_group_size(table) {
-        return Written::Refused(Refusal::BufferTooShort);
-    }
-    let at1 = buffer::put(out, 0, flag);
-    let at2 = buffer::put(out, at1, 0xFF);
-    let end = put_alarms(out, at2, table);
-    Written::Wrote(end)
+    let at = buffer::put_all(out, 0, &[flag, 0xFF]);
+    Ok(put_all_on::<P>(out, at, &ruled))
 }

@@ -1,13 +1,6 @@
 -- What is said of the loaded table is said of the lent one: a table that breaks its rule is refused before its records are read.
-use mathlib.Core.Path.{◌≡◌, refl, sym, ap, ◌∙◌, subst}
-use mathlib.Core.Bool.{Bool, true, false, not, cond}
-use mathlib.Core.List.{List}
-use Prim.Native.Nat.{ℕ, ◌≤◌, ◌<◌}
-use native.Mathlib.Nat.{le_refl, le_of_eq}
-use native.Mathlib.Omega.{arith}
-use lib.ListN.{length, take}
-use lib.Seq.{length-take-le, take-take}
-use lib.Dec.{leb, leb→le, nleb→lt, T}
+use Rattle.std.proofs.Common.{◌≡◌, refl, sym, ap, ◌∙◌, subst, Bool, true, false, not, cond, List, ℕ, ◌≤◌, ◌<◌, le_refl, le_of_eq, arith, length, take, length-take-le, take-take, leb, leb→le, T}
+use lib.Dec.{nleb→lt}
 use Rattle.buffer.specs.Writing.{writing}
 use Rattle.record.specs.declared.Module.{Module}
 use Rattle.table.specs.declared.Station.{Station}
@@ -17,16 +10,14 @@ use Rattle.reply.specs.declared.gate.Question.{Question}
 use Rattle.reply.specs.Read.{Left, read_reply}
 use Rattle.table.specs.Rule.{rule, keeps}
 use Rattle.groups.specs.Groups.{analog_group_writing, alarm_group_writing}
-use Rattle.standin.specs.Answer.{answer, off_at}
+use Rattle.standin.specs.Answer.{answer}
 use Rattle.flat.specs.declared.FlatReply.{FlatReply}
 use Rattle.entries.specs.declared.ReadReply.{ReadReply}
 use Rattle.lent.specs.Loaded.{over, loaded}
-use Rattle.entries.specs.Entries.{Serves, changes_records, stored_of, ReadsFlat}
+use Rattle.entries.specs.Entries.{changes_records, stored_of, ReadsFlat}
 use Rattle.hanuzak.specs.Reading.{read_then, reading, ReplyLeaves}
-use Rattle.entries.specs.declared.Served.{Served}
 use Rattle.flat.specs.Flat.{reply_of}
-use Rattle.hanuzak.specs.Answering.{then_of, answering, Leaves}
-use Rattle.lent.proofs.Loaded.{by-loaded, few-keep, loaded-members, many-break, over-all, over_none}
+use Rattle.lent.proofs.Loaded.{loaded-keeps, by-loaded, few-keep, loaded-members, many-break, over-all, over_none}
 use Rattle.entries.proofs.Stored.{unstored}
 
 module _ (ms : List Module) (flag : ℕ) (out : List ℕ) where
@@ -42,14 +33,6 @@ pub lent-answer : (station : Station) (ms : List Module) (stretch out : List ℕ
     → answer (keeps (loaded ms)) (loaded ms).count station (members (loaded ms)) stretch out ≡ answer (rule ms) (length ms) station ms stretch out
 unfolding answer loaded
 lent-answer station ms stretch out = by-loaded (λ (b : Bool) (xs : List Module). answer b (length ms) station xs stretch out) ms (λ xs ys. refl)
-
--- the three parts of the stand-in over a lent table
-pub lent-answering : (station : Station) (ms : List Module) (stretch out : List ℕ) (r : Served) (table : List Module) (out' : List ℕ)
-    → Serves (answer (keeps (loaded ms)) (loaded ms).count station (members (loaded ms)) stretch out) r out' → table ≡ off_at r.off ms → Leaves (answering station ms stretch out) r.answered table out'
-unfolding answering
-lent-answering station ms stretch out r table out' s e =
-    (λ i. record { answered = s.answered i; table = (e ∙ ap (λ (k : ℕ). off_at k ms) s.off) i; out = s.out i })
-    ∙ ap (then_of ms) (lent-answer station ms stretch out)
 
 -- ---- the reply reader
 
@@ -101,3 +84,6 @@ lent-reading ms question stretch r table full s e = pick (leb (length ms) 12) re
         let was : read ≡ left false (members (loaded ms)) = ap (λ (b : Bool). left b (members (loaded ms))) (many-break ms many).0 in
         let is : left false ms ≡ left (rule ms) ms = ap (λ (b : Bool). left b ms) (sym (many-break ms many).1) in
         both (left false (members (loaded ms))) was (none-stored (stored_is _ was false refl) ∙ ap (λ (l : Left). l.modules) is) (ap flat is)
+
+-- for the functions over the lent table
+pub ruleset lent = (lent-analog, lent-alarm, lent-answer, loaded-keeps)

@@ -1,7 +1,5 @@
 -- Two results that a contract over the lent table allows are equal: each part of one is that of the other.
-use mathlib.Core.Path.{◌≡◌, sym, ap, ◌∙◌}
-use mathlib.Core.List.{List}
-use Prim.Native.Nat.{ℕ}
+use Rattle.std.proofs.Common.{◌≡◌, sym, ap, ◌∙◌, List, ℕ}
 use Rattle.record.specs.declared.Module.{Module}
 use Rattle.flat.specs.declared.FlatAnswered.{FlatAnswered}
 use Rattle.flat.specs.declared.FlatReply.{FlatReply}

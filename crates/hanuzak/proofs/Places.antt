@@ -1,10 +1,5 @@
 -- For C, over the lent table: the reply reader hands the place of a character that isn't hex back, and the stand-in is silent.
-use mathlib.Core.Path.{◌≡◌, refl, sym, ap, ◌∙◌, subst}
-use mathlib.Core.Bool.{true}
-use mathlib.Core.List.{List}
-use Prim.Native.Nat.{ℕ, suc, ◌≤◌}
-use native.Mathlib.Omega.{arith}
-use lib.ListN.{length}
+use Rattle.std.proofs.Common.{◌≡◌, refl, sym, ap, ◌∙◌, subst, true, List, ℕ, suc, ◌≤◌, arith, length}
 use Rattle.frame.specs.Place.{Placed}
 use Rattle.record.specs.declared.Module.{Module}
 use Rattle.table.specs.declared.Station.{Station}
@@ -42,12 +37,12 @@ module _ (ms : List Module) (q : Question) (c : List ℕ) (told : FlatReply) (af
       maker : List ℕ
       maker = (Read.read_reply (rule ms) ms q c).maker
 
-      go : (o : Read.Result) → (Read.read_reply (rule ms) ms q c).outcome ≡ o → Placed c told.number (suc p)
-      go (Read.read ver code flag) is = absurd (omega (arith, at, ap (λ (x : ReadThen). x.reply.place) e ∙ ap (λ (x : Read.Result). (reply_of x maker).place) is))
-      go (Read.refused k) is = absurd (omega (arith, at, ap (λ (x : ReadThen). x.reply.place) e ∙ ap (λ (x : Read.Result). (reply_of x maker).place) is))
+      go : (o : Read.Outcome) → (Read.read_reply (rule ms) ms q c).outcome ≡ o → Placed c told.number (suc p)
+      go (Read.read ver code flag) is = absurd (omega (arith, at, ap (λ (x : ReadThen). x.reply.place) e ∙ ap (λ (x : Read.Outcome). (reply_of x maker).place) is))
+      go (Read.refused k) is = absurd (omega (arith, at, ap (λ (x : ReadThen). x.reply.place) e ∙ ap (λ (x : Read.Outcome). (reply_of x maker).place) is))
       go (Read.refused_at k p') is =
-          let number : told.number ≡ k = ap (λ (x : ReadThen). x.reply.number) e ∙ ap (λ (x : Read.Result). (reply_of x maker).number) is in
-          let place : p' ≡ suc p = sym (ap (λ (x : ReadThen). x.reply.place) e ∙ ap (λ (x : Read.Result). (reply_of x maker).place) is) ∙ at in
+          let number : told.number ≡ k = ap (λ (x : ReadThen). x.reply.number) e ∙ ap (λ (x : Read.Outcome). (reply_of x maker).number) is in
+          let place : p' ≡ suc p = sym (ap (λ (x : ReadThen). x.reply.place) e ∙ ap (λ (x : Read.Outcome). (reply_of x maker).place) is) ∙ at in
           subst (λ (n : ℕ). Placed c n (suc p)) (sym number) (subst (Placed c k) place (left-placed (rule ms) ms q c k p' is))
 
 -- ---- any result that the contract of `hanuzak_answer` allows

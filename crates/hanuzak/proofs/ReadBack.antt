@@ -1,15 +1,6 @@
 -- Over the calls themselves, for every lent table: what `hanuzak_answer` answers is read back by `hanuzak_read_reply`, what the table is after each, and that its rule holds again.
-use mathlib.Core.Path.{◌≡◌, refl, sym, ap, ◌∙◌, subst}
-use mathlib.Core.Logic.{◌⊎◌, inl, inr, ⊎_elim}
-use mathlib.Core.Bool.{Bool, true, false, cond}
-use mathlib.Core.List.{List}
-use Prim.Native.Nat.{ℕ}
-use native.Mathlib.Omega.{arith}
-use lib.ListN.{length, take, drop}
-use lib.Seq.{take_at}
-use lib.Dec.{ltb, eqb}
-use borrow.Author.Tests.{lt-ltb, eq-eqb, eqb-true}
-use Rattle.buffer.proofs.Lists.{never, by_cond}
+use Rattle.std.proofs.Common.{◌≡◌, refl, sym, ap, ◌∙◌, subst, ◌⊎◌, inl, inr, ⊎_elim, Bool, true, false, cond, List, ℕ, arith, length, take, drop, take_at, ltb, eqb, lt-ltb, eq-eqb, eqb-true}
+use Rattle.buffer.proofs.Lists.{by_cond}
 use Rattle.frame.specs.Frame.{chars, encode, Encodes, between}
 use Rattle.record.specs.declared.Module.{Module}
 use Rattle.table.specs.declared.Station.{Station}
@@ -63,7 +54,7 @@ module _ (st : Station) (ms : List Module) (w : Words) (out : List ℕ) where
   mute-or-spoke false true (Code code) = inr (refl, (code, refl, refl))
 
 differ : (a b : ℕ) → eqb a b ≡ false → a ≡ b → ⊥
-differ a b f e = let z : true ≡ false = sym (eq-eqb a b e) ∙ f in never (cc)
+differ a b f e = let z : true ≡ false = sym (eq-eqb a b e) ∙ f in cc
 
 -- an accepted 95H, or the table as it was
 off-or-stays : (ms : List Module) (w : Words) (code : ℕ) → (off_at (off_for (length ms) ms w code) ms ≡ ms) ⊎ ((code ≡ 0) × (w.header.cid2 ≡ 0x95))

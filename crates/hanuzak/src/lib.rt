@@ -1,4 +1,4 @@
-// The interface of the library: the lent table with its thin functions, and what C calls.
+// The interface of the library: the lent table with its thin functions, and what C calls. A name for each kind, since C has no generic functions.
 
 #![tactic(auto)]
 
@@ -19,18 +19,22 @@ ghost use Rattle.flat.specs.Listing.{flat_listing, listing_back, FlatLists};
 ghost use Rattle.hanuzak.specs.Answering.{answering, Leaves};
 ghost use Rattle.hanuzak.specs.Reading.{reading, ReplyLeaves};
 
+use alarm::AlarmInformation;
+use analog::AnalogValues;
+use fixed::{FirmwareVersion, ManagementLimits, SerialNumber, SystemParameters};
 use flat::{
     FlatAnswered, FlatEvent, FlatListed, FlatListing, FlatRan, FlatReceiver, FlatReply,
     FlatStepped, FlatWritten,
 };
 use frame::Header;
 use listing::Listing;
+use parts::write::{write_flag_alone, write_flagged, write_unflagged};
 use receiver::Receiver;
 use record::Module;
 use reply::gate::Question;
 use table::Station;
 
-// ---- one record of the lent table
+// ---- one record of the lent table, by its index: after a loan by `get_mut` the check knows a slice's length alone, and a copy by `get` was slower
 
 // A copy of the record at a place; past the end it is the other one.
 #[unsafe(no_mangle)]
@@ -55,6 +59,7 @@ pub extern "C" fn hanuzak_replace(table: &mut [Module], at: usize, with: Module)
 
 // Switches the record at a place off, with every other field as it was; past the end nothing changes.
 #[unsafe(no_mangle)]
+#[tactic(auto, unfolding(standin::specs::Answer::off_at))]
 pub extern "C" fn hanuzak_switch_off(table: &mut [Module], at: usize)
     ensures { table.new ≡ off_at at table.old }
 {
@@ -75,15 +80,19 @@ pub extern "C" fn hanuzak_module_new(adr: u8) -> Module
 
 // 0 for a table that keeps its rule, else 31.
 #[unsafe(no_mangle)]
+#[tactic(auto, using(crate::proofs::Lent::lent))]
 pub extern "C" fn hanuzak_table(table: &[Module]) -> u8
     ensures { result ≡ cond (rule table.now) 0 31 }
 {
-    let all = lent::load(table);
-    entries::rule_number(all)
+    match entries::check_rule(lent::load(table)) {
+        Ok(()) => 0,
+        Err(refusal) => refusal.number(),
+    }
 }
 
 // INFO of 42H for Command FFH: 31, then 32.
 #[unsafe(no_mangle)]
+#[tactic(auto, using(crate::proofs::Lent::lent), unfolding(record::specs::Infos::analog_group))]
 pub extern "C" fn hanuzak_write_analog_group(
     table: &[Module],
     flag: u8,
@@ -91,12 +100,12 @@ pub extern "C" fn hanuzak_write_analog_group(
 ) -> FlatWritten
     ensures { FlatWrites (analog_group_writing (rule table.now) flag table.now out.old) result out.new }
 {
-    let all = lent::load(table);
-    entries::analog_group(out, flag, all)
+    entries::group::<AnalogValues>(out, flag, lent::load(table))
 }
 
 // INFO of 44H for Command FFH: 31, then 32.
 #[unsafe(no_mangle)]
+#[tactic(auto, using(crate::proofs::Lent::lent), unfolding(record::specs::Infos::alarm_group))]
 pub extern "C" fn hanuzak_write_alarm_group(
     table: &[Module],
     flag: u8,
@@ -104,8 +113,7 @@ pub extern "C" fn hanuzak_write_alarm_group(
 ) -> FlatWritten
     ensures { FlatWrites (alarm_group_writing (rule table.now) flag table.now out.old) result out.new }
 {
-    let all = lent::load(table);
-    entries::alarm_group(out, flag, all)
+    entries::group::<AlarmInformation>(out, flag, lent::load(table))
 }
 
 // ---- the stand-in and the reply reader
@@ -113,6 +121,7 @@ pub extern "C" fn hanuzak_write_alarm_group(
 // The answer to a stretch, the bytes between SOI and CR; an accepted 95H switches its module off in the lent table, of which only that
 // record's mark is written.
 #[unsafe(no_mangle)]
+#[tactic(auto, using(crate::proofs::Lent::lent), unfolding(crate::specs::Answering::answering))]
 pub extern "C" fn hanuzak_answer(
     table: &mut [Module],
     station: Station,
@@ -121,8 +130,7 @@ pub extern "C" fn hanuzak_answer(
 ) -> FlatAnswered
     ensures { Leaves (answering station table.old stretch.now out.old) result table.new out.new }
 {
-    let all = lent::load(table);
-    let served = entries::serve(station, all, stretch, out);
+    let served = entries::serve(station, lent::load(table), stretch, out);
     hanuzak_switch_off(table, served.off);
     served.answered
 }
@@ -137,8 +145,7 @@ pub extern "C" fn hanuzak_read_reply(
 ) -> FlatReply
     ensures { ReplyLeaves (reading table.old question stretch.now) result table.new }
 {
-    let all = lent::load(table);
-    let done = entries::read_flat(all, question, stretch);
+    let done = entries::read_flat(lent::load(table), question, stretch);
     lent::store(table, done.table, done.stored);
     done.reply
 }
@@ -150,7 +157,7 @@ pub extern "C" fn hanuzak_read_reply(
 pub extern "C" fn hanuzak_judge(stretch: &[u8]) -> FlatEvent
     ensures { result ≡ event_of (judge stretch.now) }
 {
-    flat::judged(frame::judge(stretch))
+    frame::judge(stretch).into()
 }
 
 // A fresh receiver, waiting.
@@ -158,7 +165,7 @@ pub extern "C" fn hanuzak_judge(stretch: &[u8]) -> FlatEvent
 pub extern "C" fn hanuzak_receiver_new() -> FlatReceiver
     ensures { result ≡ flat_receiver Receiver.Waiting }
 {
-    flat::receiver(Receiver::new())
+    Receiver::new().into()
 }
 
 // One byte of the stream.
@@ -166,14 +173,7 @@ pub extern "C" fn hanuzak_receiver_new() -> FlatReceiver
 pub extern "C" fn hanuzak_step(receiver: FlatReceiver, store: &mut [u8], byte: u8) -> FlatStepped
     ensures { FlatSteps receiver store.old byte result store.new }
 {
-    let inner = flat::receiver_of(receiver);
-    let stepped = inner.step(store, byte);
-    let next = stepped.next;
-    let event = stepped.event;
-    FlatStepped {
-        next: flat::receiver(next),
-        event: flat::event(event),
-    }
+    Receiver::from(receiver).step(store, byte).into()
 }
 
 // A piece of the stream, up to and including the byte that gives an event.
@@ -181,16 +181,7 @@ pub extern "C" fn hanuzak_step(receiver: FlatReceiver, store: &mut [u8], byte: u
 pub extern "C" fn hanuzak_run(receiver: FlatReceiver, store: &mut [u8], piece: &[u8]) -> FlatRan
     ensures { FlatRuns receiver store.old piece.now result store.new }
 {
-    let inner = flat::receiver_of(receiver);
-    let ran = inner.run(store, piece);
-    let next = ran.next;
-    let event = ran.event;
-    FlatRan {
-        next: flat::receiver(next),
-        event: flat::event(event),
-        taken: ran.taken,
-        held: ran.held,
-    }
+    Receiver::from(receiver).run(store, piece).into()
 }
 
 // ---- writers
@@ -213,55 +204,61 @@ pub extern "C" fn hanuzak_write_frame(
         cid1,
         cid2,
     };
-    flat::written(frame::write(header, info, out))
+    frame::write(header, info, out).into()
 }
 
 // INFO of 42H for one module: 33, then 32.
 #[unsafe(no_mangle)]
+#[tactic(auto, unfolding(record::specs::Infos::analog_info))]
 pub extern "C" fn hanuzak_write_analog(given: Module, flag: u8, out: &mut [u8]) -> FlatWritten
     ensures { FlatWrites (record_writing given.adr (analog_info given.adr) ((flag, given.adr), given.analog) out.old) result out.new }
 {
-    flat::written(analog::writer::write_analog(out, flag, given))
+    write_flagged::<AnalogValues>(out, flag, given.adr, given.analog).into()
 }
 
 // INFO of 44H for one module: 33, then 32.
 #[unsafe(no_mangle)]
+#[tactic(auto, unfolding(record::specs::Infos::alarm_info))]
 pub extern "C" fn hanuzak_write_alarm(given: Module, flag: u8, out: &mut [u8]) -> FlatWritten
     ensures { FlatWrites (record_writing given.adr (alarm_info given.adr) ((flag, given.adr), given.alarm) out.old) result out.new }
 {
-    flat::written(alarm::writer::write_alarm(out, flag, given))
+    write_flagged::<AlarmInformation>(out, flag, given.adr, given.alarm).into()
 }
 
 // INFO of 47H: 33, then 32.
 #[unsafe(no_mangle)]
+#[tactic(auto, unfolding(record::specs::Infos::parameters_info))]
 pub extern "C" fn hanuzak_write_parameters(given: Module, flag: u8, out: &mut [u8]) -> FlatWritten
     ensures { FlatWrites (record_writing given.adr parameters_info (flag, given.parameters) out.old) result out.new }
 {
-    flat::written(fixed::writer::write_parameters(out, flag, given))
+    write_flag_alone::<SystemParameters>(out, flag, given.adr, given.parameters).into()
 }
 
 // INFO of 92H: 33, then 32.
 #[unsafe(no_mangle)]
+#[tactic(auto, unfolding(record::specs::Infos::limits_info))]
 pub extern "C" fn hanuzak_write_limits(given: Module, out: &mut [u8]) -> FlatWritten
     ensures { FlatWrites (record_writing given.adr (limits_info given.adr) (given.adr, given.limits) out.old) result out.new }
 {
-    flat::written(fixed::writer::write_limits(out, given))
+    write_unflagged::<ManagementLimits>(out, given.adr, given.limits).into()
 }
 
 // INFO of 93H: 33, then 32.
 #[unsafe(no_mangle)]
+#[tactic(auto, unfolding(record::specs::Infos::serial_info))]
 pub extern "C" fn hanuzak_write_serial(given: Module, out: &mut [u8]) -> FlatWritten
     ensures { FlatWrites (record_writing given.adr (serial_info given.adr) (given.adr, given.serial) out.old) result out.new }
 {
-    flat::written(fixed::writer::write_serial(out, given))
+    write_unflagged::<SerialNumber>(out, given.adr, given.serial).into()
 }
 
 // INFO of 96H: 33, then 32.
 #[unsafe(no_mangle)]
+#[tactic(auto, unfolding(record::specs::Infos::version_info))]
 pub extern "C" fn hanuzak_write_version(given: Module, out: &mut [u8]) -> FlatWritten
     ensures { FlatWrites (record_writing given.adr (version_info given.adr) (given.adr, given.version) out.old) result out.new }
 {
-    flat::written(fixed::writer::write_version(out, given))
+    write_unflagged::<FirmwareVersion>(out, given.adr, given.version).into()
 }
 
 // ---- what numbers mean
@@ -289,7 +286,7 @@ pub extern "C" fn hanuzak_milliamps(current: i16) -> i32
 pub extern "C" fn hanuzak_listing_new() -> FlatListing
     ensures { result ≡ flat_listing fresh }
 {
-    flat::listing(Listing::new())
+    Listing::new().into()
 }
 
 // Lists as much of a piece as the buffer has room for: 32 for a store below 4,110 bytes or a buffer below 4,200, then 35.
@@ -302,8 +299,7 @@ pub extern "C" fn hanuzak_list(
 ) -> FlatListed
     ensures { FlatLists (list (listing_back listing) store.old piece.now out.old) result store.new out.new }
 {
-    let inner = flat::listing_of(listing);
-    flat::listed(inner.list(store, piece, out))
+    Listing::from(listing).list(store, piece, out).into()
 }
 
 // The two totals, which close a listing: 32 for a buffer below 38 bytes.
@@ -311,6 +307,5 @@ pub extern "C" fn hanuzak_list(
 pub extern "C" fn hanuzak_list_close(listing: FlatListing, out: &mut [u8]) -> FlatWritten
     ensures { FlatWrites (closing (listing_back listing) out.old) result out.new }
 {
-    let inner = flat::listing_of(listing);
-    flat::written(inner.close(out))
+    Listing::from(listing).close(out).into()
 }

@@ -1,6 +1,6 @@
 -- Hex both ways: each digit has one character, and bytes are read back from theirs.
-use Rattle.std.proofs.Common.{◌≡◌, ℕ, ◌+◌, ◌-◌, ◌*◌, ◌/◌, ◌%◌, ◌<◌, ◌≤◌, min, Bool, true, false, cond, ◌&&◌, ◌||◌, T, eqb, ltb, leb, List, [], ◌∷◌, ◌++◌, length, sym, refl, ap, ◌∙◌, subst, ap₂, arith, eqb→eq, ltb→lt, leb→le, nltb→le, T_not}
-use mir.Facts.{and_yes, yes_and}
+use Rattle.std.proofs.Common.{◌≡◌, ℕ, ◌+◌, ◌-◌, ◌*◌, ◌/◌, ◌%◌, ◌<◌, ◌≤◌, min, Bool, true, false, cond, ◌&&◌, ◌||◌, T, eqb, ltb, leb, List, [], ◌∷◌, ◌++◌, length, sym, refl, subst, arith, eqb→eq, ltb→lt, leb→le, nltb→le, T_not}
+use Rattle.std.proofs.Math.Facts.{and_yes, yes_and}
 use Rattle.buffer.proofs.Lists.{by_cond, below}
 use Rattle.hex_chars.specs.Hex.{within, is_hex, digit_of, char_of, all_hex, pair_of, hexes, byte_of, unhexes, byte_at, word_at, word, Bytes}
 
@@ -24,14 +24,12 @@ digit-small c =
     by_cond (λ (d : ℕ). d < 16) (within "0" "9" c) (λ t. omega (arith, leb→le c 57 (and_yes (leb 48 c) (leb c 57) t).1))
     (λ t. by_cond (λ (d : ℕ). d < 16) (within "A" "F" c) (λ v. omega (arith, leb→le c 70 (and_yes (leb 65 c) (leb c 70) v).1)) (λ v. omega arith))
 
+pub ruleset small = (digit-small)
+
 -- the same with no branch
 pub reckoned : (c : ℕ) → c < 256 → (c % 16 + c / 64 * 9) % 16 ≡ digit_of c
 unfolding digit_of
 reckoned c h = eqb→eq ((c % 16 + c / 64 * 9) % 16) (digit_of c) (below (λ c. eqb ((c % 16 + c / 64 * 9) % 16) (digit_of c)) 256 tt c h)
-
--- how far a byte is from the hex characters, by differences that stop at 0
-unfoldable far : ℕ → ℕ
-far c = min ((c + 208) % 256 - 9) ((c + 191) % 256 - 5)
 
 abbrev bit : Bool → ℕ
 bit true = 1
@@ -43,18 +41,13 @@ one_bit true false e = absurd (omega arith)
 one_bit false true e = absurd (omega arith)
 one_bit false false e = refl
 
-far-computed : (c : ℕ) → c < 256 → eqb (far c) 0 ≡ is_hex c
-unfolding far is_hex
-far-computed c h =
-    one_bit (eqb (far c) 0) (is_hex c) (eqb→eq (bit (eqb (far c) 0)) (bit (is_hex c)) (below (λ c. eqb (bit (eqb (far c) 0)) (bit (is_hex c))) 256 tt c h))
-
--- no distance from the digits or none from the letters
-pub far-hex : (c d l r : ℕ) → c < 256 → d < 256 → l < 256 → (d + 48) % 256 ≡ c → (l + 65) % 256 ≡ c → r ≡ min (d - 9) (l - 5) → eqb r 0 ≡ is_hex c
-unfolding far
-far-hex c d l r h hd hl ed el e =
-    let p : d ≡ (c + 208) % 256 = omega arith in
-    let q : l ≡ (c + 191) % 256 = omega arith in
-    ap (λ (x : ℕ). eqb x 0) (e ∙ ap₂ (λ (u v : ℕ). min (u - 9) (v - 5)) p q) ∙ far-computed c h
+-- how far a byte is above the digits and above the letters, counted round past 255
+pub far_hex : (c : ℕ) → c < 256 → eqb (min ((c + 208) % 256 - 9) ((c + 191) % 256 - 5)) 0 ≡ is_hex c
+unfolding is_hex
+far_hex c h = one_bit (far c) (is_hex c) (eqb→eq (bit (far c)) (bit (is_hex c)) (below (λ c. eqb (bit (far c)) (bit (is_hex c))) 256 tt c h))
+  where
+    far : ℕ → Bool
+    far c = eqb (min ((c + 208) % 256 - 9) ((c + 191) % 256 - 5)) 0
 
 pub char-range : (d : ℕ) → d < 16 → (48 ≤ char_of d) × (char_of d ≤ 70)
 unfolding char_of

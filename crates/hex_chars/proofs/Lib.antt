@@ -1,4 +1,3 @@
 pub mod Laws
 pub mod Scan
 pub mod Bad
-pub mod Turns

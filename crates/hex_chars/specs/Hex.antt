@@ -1,7 +1,7 @@
 -- Hex characters: `0`-`9` and `A`-`F` only, two for each byte, high digit first. Lower case is not hex here.
 use Rattle.std.specs.Prelude.{◌≡◌, ℕ, suc, ◌+◌, ◌-◌, ◌*◌, ◌/◌, ◌%◌, ◌<◌, Bool, true, false, cond, not, ◌&&◌, ◌||◌, List, [], ◌∷◌, length, take, nat_le, nat_lt, slice_index}
+use Rattle.std.specs.List.{list_all, position_or_len}
 use Prim.Native.Char.{Char, code}
-use Rattle.buffer.specs.Scan as Scan
 
 abbrev pub within : Char → Char → ℕ → Bool
 within first last c = nat_le (code first) c && nat_le c (code last)
@@ -21,12 +21,11 @@ unfoldable pub char_of : ℕ → ℕ
 char_of d = cond (nat_lt d 10) (code "0" + d) (code "A" + (d - 10))
 
 unfoldable pub all_hex : List ℕ → Bool
-all_hex [] = true
-all_hex (c ∷ cs) = is_hex c && all_hex cs
+all_hex cs = list_all is_hex cs
 
 -- the place of the first character that isn't hex: how many stand before it, or all of them
 unfoldable pub bad_place : List ℕ → ℕ
-bad_place cs = Scan.before (λ c. not (is_hex c)) cs
+bad_place cs = position_or_len (λ c. not (is_hex c)) cs
 
 -- what that place is: inside, all before it is hex, and the character there is not
 pub record FirstBad (cs : List ℕ) (p : ℕ) : Type 0 where

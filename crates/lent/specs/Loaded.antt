@@ -1,5 +1,5 @@
 -- A lent table by value: how many records it has, and the first twelve of them, with blank records in the other places.
-use Rattle.std.specs.Prelude.{List, [], ◌∷◌, ℕ, length, replicate}
+use Rattle.std.specs.Prelude.{List, [], ◌∷◌, length, replicate}
 use Rattle.record.specs.declared.Module.{Module}
 use Rattle.table.specs.declared.Table.{Table}
 use Rattle.table.specs.Table.{blank}
@@ -12,6 +12,3 @@ over (r ∷ row) (m ∷ ms) = m ∷ over row ms
 
 unfoldable pub loaded : List Module → Table
 loaded ms = record { count = length ms; modules = over (replicate 12 blank) ms }
-
-abbrev pub empty : ℕ → Table
-empty count = record { count = count; modules = replicate 12 blank }

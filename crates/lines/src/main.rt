@@ -2,35 +2,41 @@
 
 #![tactic(auto)]
 
-use frame::Header;
-use parts::front::Taken;
+use analog::AnalogValues;
+use fixed::{ManagementLimits, SystemParameters};
+use frame::{CR, Fault, Frame, SOI};
+use parts::read::{take_flag_alone, take_flagged, take_unflagged};
 use receiver::{Event, Receiver};
+use refusal::Refusal;
 use std::io;
 
-fn print_byte(rt: &impl Print, key: &str, b: u8) -> io::Result<()> {
-    print!(rt; "{key}{b:02x}")
+// The printing functions are no `Display`: the types are of other crates, and no other program prints them so.
+
+fn print_frame(rt: &impl Print, frame: Frame) -> io::Result<()> {
+    let header = frame.header;
+    print!(rt;
+        " frame {:02x} {:02x} {:02x} {:02x} LENID {}",
+        header.ver, header.adr, header.cid1, header.cid2, frame.lenid
+    )
 }
 
-fn print_frame(rt: &impl Print, header: Header, lenid: usize) -> io::Result<()> {
-    print_byte(rt, " frame ", header.ver)?;
-    print_byte(rt, " ", header.adr)?;
-    print_byte(rt, " ", header.cid1)?;
-    print_byte(rt, " ", header.cid2)?;
-    print!(rt; " LENID {lenid}")
+fn print_refusal(rt: &impl Print, refusal: Refusal) -> io::Result<()> {
+    print!(rt; " refused {}", refusal.number())
+}
+
+fn print_fault(rt: &impl Print, fault: Fault) -> io::Result<()> {
+    print_refusal(rt, fault.refusal)?;
+    match fault.place {
+        None => Ok(()),
+        Some(place) => print!(rt; " at place {place}"),
+    }
 }
 
 fn print_event(rt: &impl Print, event: Event) -> io::Result<()> {
     match event {
-        Event::Nothing => Ok(()),
-        Event::Frame(header, lenid) => print_frame(rt, header, lenid),
-        Event::Refused(refusal) => {
-            let number = refusal.number();
-            print!(rt; " refused {number}")
-        }
-        Event::RefusedAt(refusal, place) => {
-            let number = refusal.number();
-            print!(rt; " refused {number} at place {place}")
-        }
+        None => Ok(()),
+        Some(Ok(frame)) => print_frame(rt, frame),
+        Some(Err(fault)) => print_fault(rt, fault),
     }
 }
 
@@ -39,124 +45,89 @@ fn hear(rt: &impl Print, name: &str, stream: &[u8]) -> io::Result<()> {
     print!(rt; "{name}")?;
     let mut store = [0u8; 4110];
     let mut now = Receiver::new();
-    for i in 0..stream.len() {
-        let stepped = now.step(&mut store, stream[i]);
-        let event = stepped.event;
-        print_event(rt, event)?;
+    for &byte in stream {
+        let stepped = now.step(&mut store, byte);
+        print_event(rt, stepped.event)?;
         now = stepped.next;
     }
     println!(rt)
 }
 
-fn print_number(rt: &impl Print, key: &str, n: u64) -> io::Result<()> {
-    print!(rt; "{key}{n}")
-}
-
-fn print_taken(rt: &impl Print, name: &str, taken: Taken) -> io::Result<()> {
+// Prints the flag of a record that was read, or its refusal.
+fn print_taken(rt: &impl Print, name: &str, taken: Result<u8, Refusal>) -> io::Result<()> {
     print!(rt; "{name}")?;
     match taken {
-        Taken::Taken(flag) => print_byte(rt, " flag ", flag),
-        Taken::Refused(refusal) => print_number(rt, " refused ", refusal.number() as u64),
+        Ok(flag) => print!(rt; " flag {flag:02x}"),
+        Err(refusal) => print_refusal(rt, refusal),
     }
 }
 
 // Prints a list of words, as many as the count says.
 fn print_words(rt: &impl Print, key: &str, count: u8, list: &[i16]) -> io::Result<()> {
-    print_number(rt, key, count as u64)?;
-    for i in 0..list.len() {
-        if i < count as usize {
-            print_number(rt, " ", record::word_of(list[i]) as u64)?;
-        }
+    print!(rt; " {key} {count}")?;
+    for word in list.iter().take(usize::from(count)) {
+        print!(rt; " {}", word.cast_unsigned())?;
     }
     Ok(())
 }
 
 // Reads the INFO of a 42H reply to ADR 02 and prints its fields.
 fn analog(rt: &impl Print, name: &str, info: &[u8]) -> io::Result<()> {
-    let found = analog::info::take_analog(info, 2);
-    let taken = found.taken;
-    let analog = found.analog;
-    print_taken(rt, name, taken)?;
-    let cells = analog.cells;
-    let temperatures = analog.temperatures;
-    print_words(rt, " cells ", analog.cell_count, &cells)?;
+    let found = take_flagged::<AnalogValues>(info, 2);
+    print_taken(rt, name, found.map(|(flag, _)| flag))?;
+    let analog = found.map_or(record::zero_analog(), |(_, analog)| analog);
+    print_words(rt, "cells", analog.cell_count, &analog.cells)?;
     print_words(
         rt,
-        " temperatures ",
+        "temperatures",
         analog.temperature_count,
-        &temperatures,
+        &analog.temperatures,
     )?;
-    print_number(rt, " current ", record::word_of(analog.current) as u64)?;
-    print_number(rt, " voltage ", analog.voltage as u64)?;
-    print_number(rt, " remaining ", analog.remaining as u64)?;
-    print_number(rt, " total ", analog.total as u64)?;
-    print_number(rt, " cycles ", analog.cycles as u64)?;
-    println!(rt)
+    println!(rt;
+        " current {} voltage {} remaining {} total {} cycles {}",
+        analog.current.cast_unsigned(),
+        analog.voltage,
+        analog.remaining,
+        analog.total,
+        analog.cycles
+    )
 }
 
-// Reads the INFO of a 92H reply to ADR 02 and prints its fields.
+// Reads the INFO of a 92H reply to ADR 02 and prints its fields. It has no flag, and 00 is printed as that.
 fn limits(rt: &impl Print, name: &str, info: &[u8]) -> io::Result<()> {
-    let found = fixed::info::take_limits(info, 2);
-    let taken = found.taken;
-    let limits = found.limits;
-    print_taken(rt, name, taken)?;
-    print_number(rt, " charge voltage ", limits.charge_voltage as u64)?;
-    print_number(rt, " discharge voltage ", limits.discharge_voltage as u64)?;
-    print_number(
-        rt,
-        " charge current ",
-        record::word_of(limits.charge_current) as u64,
-    )?;
-    print_number(
-        rt,
-        " discharge current ",
-        record::word_of(limits.discharge_current) as u64,
-    )?;
-    print_byte(rt, " status ", limits.status)?;
-    println!(rt)
-}
-
-fn print_three(rt: &impl Print, key: &str, first: u16, second: u16, third: u16) -> io::Result<()> {
-    print_number(rt, key, first as u64)?;
-    print_number(rt, " ", second as u64)?;
-    print_number(rt, " ", third as u64)
+    let found = take_unflagged::<ManagementLimits>(info, 2);
+    print_taken(rt, name, found.map(|_| 0))?;
+    let limits = found.unwrap_or(record::zero_limits());
+    println!(rt;
+        " charge voltage {} discharge voltage {} charge current {} discharge current {} status {:02x}",
+        limits.charge_voltage,
+        limits.discharge_voltage,
+        limits.charge_current.cast_unsigned(),
+        limits.discharge_current.cast_unsigned(),
+        limits.status
+    )
 }
 
 // Reads the INFO of a 47H reply and prints its twelve words.
 fn parameters(rt: &impl Print, name: &str, info: &[u8]) -> io::Result<()> {
-    let found = fixed::info::take_parameters(info);
-    let taken = found.taken;
-    let parameters = found.parameters;
-    print_taken(rt, name, taken)?;
-    print_three(
-        rt,
-        " cell ",
-        record::word_of(parameters.cell_high_voltage),
-        record::word_of(parameters.cell_low_voltage),
-        record::word_of(parameters.cell_under_voltage),
-    )?;
-    print_three(
-        rt,
-        " charge ",
-        record::word_of(parameters.charge_high_temperature),
-        record::word_of(parameters.charge_low_temperature),
-        record::word_of(parameters.charge_current),
-    )?;
-    print_three(
-        rt,
-        " module ",
+    let found = take_flag_alone::<SystemParameters>(info);
+    print_taken(rt, name, found.map(|(flag, _)| flag))?;
+    let parameters = found.map_or(record::zero_parameters(), |(_, parameters)| parameters);
+    println!(rt;
+        " cell {} {} {} charge {} {} {} module {} {} {} discharge {} {} {}",
+        parameters.cell_high_voltage.cast_unsigned(),
+        parameters.cell_low_voltage.cast_unsigned(),
+        parameters.cell_under_voltage.cast_unsigned(),
+        parameters.charge_high_temperature.cast_unsigned(),
+        parameters.charge_low_temperature.cast_unsigned(),
+        parameters.charge_current.cast_unsigned(),
         parameters.module_high_voltage,
         parameters.module_low_voltage,
         parameters.module_under_voltage,
-    )?;
-    print_three(
-        rt,
-        " discharge ",
-        record::word_of(parameters.discharge_high_temperature),
-        record::word_of(parameters.discharge_low_temperature),
-        record::word_of(parameters.discharge_current),
-    )?;
-    println!(rt)
+        parameters.discharge_high_temperature.cast_unsigned(),
+        parameters.discharge_low_temperature.cast_unsigned(),
+        parameters.discharge_current.cast_unsigned()
+    )
 }
 
 // Short frames, and stretches that are none.
@@ -175,12 +146,12 @@ fn frames(rt: &impl Print) -> io::Result<()> {
 
 // As many characters as a stretch can have, and one more.
 fn longest(rt: &impl Print) -> io::Result<()> {
-    let mut long = [48u8; 4113];
-    long[0] = 126;
-    long[4111] = 13;
+    let mut long = [b'0'; 4113];
+    long[0] = SOI;
+    long[4111] = CR;
     hear(rt, "4110 characters and CR:", &long[..4112])?;
-    long[4111] = 48;
-    long[4112] = 13;
+    long[4111] = b'0';
+    long[4112] = CR;
     hear(rt, "4111 characters and CR:", &long)
 }
 

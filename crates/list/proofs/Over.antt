@@ -1,27 +1,17 @@
 -- Calls of `list` one after the other, over a piece and over one read after another; and the listing that they print.
-use mathlib.Core.Path.{◌≡◌, refl, sym, ap, ◌∙◌, subst}
-use mathlib.Core.Logic.{◌⊎◌, inl, inr}
-use mathlib.Core.Bool.{Bool, true, false, cond, ◌&&◌}
-use mathlib.Core.List.{List, [], ◌∷◌, ◌++◌}
-use Prim.Native.Nat.{ℕ, zero, suc, ◌+◌, ◌-◌, ◌≤◌, ◌<◌}
-use native.Mathlib.Omega.{arith}
-use lib.ListN.{length, take, drop, length-drop, length-append}
-use lib.IntN.{ℤ, pos, negsuc}
-use lib.Dec.{ltb}
-use lib.Seq.{take_all, take-length, take-nil, drop-drop}
-use borrow.Author.Tests.{ltb-true, ltb-false}
-use Rattle.buffer.proofs.Lists.{never}
+use Rattle.std.proofs.Common.{◌≡◌, refl, sym, ap, ◌∙◌, subst, ◌⊎◌, List, [], ◌∷◌, ◌++◌, ℕ, ◌+◌, ◌≤◌, ◌<◌, min, length, take, drop, arith, length-append, length-take}
+use Rattle.std.proofs.Math.Seq.{take-length, take-nil}
+use Rattle.std.proofs.lemmas.Bool.Decides.{nat_tests}
+use Rattle.std.specs.Prelude.{Option, Some, None, false, true}
 use Rattle.buffer.specs.Writing.{Outcome, wrote, refused, Left}
 use Rattle.listing.specs.declared.Listing.{Listing}
 use Rattle.listing.specs.declared.Listed.{Listed}
-use Rattle.listing.specs.Piece.{fresh, left, Call, list, Lists, closing}
+use Rattle.listing.specs.Piece.{fresh, left, list, Lists, closing}
 use Rattle.listing.specs.Calls.{Given, text_by, text, Called, calls}
 use Rattle.listing.proofs.Parts.{lists-few}
-use Rattle.listing.proofs.Calls.{saying, calls-join, calls-more, calls-offset, any-calls}
-use Rattle.list.specs.declared.Part.{Part}
+use Rattle.listing.proofs.Calls.{calls-join, calls-more, calls-offset, any-calls}
 use Rattle.list.specs.declared.Turn.{Turn}
-use Rattle.list.specs.List.{part_of, Parts, Over, Pieces, gave, failed, got, Turns, goes_on, whole, Sofar, All, Closes, Printed, Prints}
-use Rattle.list.proofs.Answered.{got-few, got-some}
+use Rattle.list.specs.List.{Parts, Over, Front, Pieces, Moved, got, Handles, Turns, goes_on, Sofar, All, Closes, Printed, Prints}
 
 pub over_none : (l : Listing) (store bytes : List ℕ) → Over l store bytes l store bytes
 unfolding calls
@@ -36,51 +26,27 @@ over-call l now store bytes store' rest out answer store'' out'' o e =
     record {
       given = o.given ++ g ∷ [];
       said = o.said ++ (text (list now store' rest out).left ++ []);
-      is =
-          calls-join o.given (g ∷ []) l store bytes
-          ∙ ap (λ (z : Called). saying z.said (calls z.next z.store z.rest (g ∷ []))) o.is
-          ∙ ap (λ (p : List ℕ). let a = list now store' p out in record { next = a.next; store = a.store; rest = drop a.taken rest; said = o.said ++ (text a.left ++ []) }) (take-length rest)
-          ∙ ap (λ (a : Call). record { next = a.next; store = a.store; rest = drop a.taken rest; said = o.said ++ (text (list now store' rest out).left ++ []) }) (sym e);
+      is = grind (arith, calls-join o.given (g ∷ []) l store bytes, o.is, take-length);
     }
 
--- a part of a piece, from place i on
-module _ (l now : Listing) (store piece store' out : List ℕ) (i : ℕ) (part : Part) (store'' out'' : List ℕ) (o : Over l store piece now store' (drop i piece))
-    (p : Parts now store' (take (length piece - i) (drop i piece)) out part store'' out'') where
-  rest-lists : Lists now store' (drop i piece) out p.answer store'' out''
-  rest-lists =
-      subst (λ (x : List ℕ). Lists now store' x out p.answer store'' out'') (take_all (length piece - i) (drop i piece) (omega (arith, length-drop i piece))) p.lists
+-- a part of a piece: whether its text was written or not, `list` was called
+module _ {l now : Listing} {store bytes store' rest out store'' out'' : List ℕ} (o : Over l store bytes now store' rest) where
+  pub parts-front : {part : Option Listed} → Parts now store' rest out part store'' out'' → Front l store bytes store''
+  parts-front p = (p.answer.next, drop p.answer.taken rest, over-call l now store bytes store' rest out p.answer store'' out'' o p.lists)
 
-  over-answer : Over l store piece p.answer.next store'' (drop p.answer.taken (drop i piece))
-  over-answer = over-call l now store piece store' (drop i piece) out p.answer store'' out'' o rest-lists
+  -- and where it was, its answer is handed on
+  pub parts-more : {part : Listed} → Parts now store' rest out (Some part) store'' out'' → (part.taken ≤ length rest) × Over l store bytes part.next store'' (drop part.taken rest)
+  parts-more p =
+      rw p.handed (lists-few now store' rest out p.answer store'' out'' p.lists, over-call l now store bytes store' rest out p.answer store'' out'' o p.lists)
 
-  -- whether its text was written or not, `list` was called
-  pub over-call-of : (last : Listing) × (rest : List ℕ) × Over l store piece last store'' rest
-  over-call-of = (p.answer.next, drop p.answer.taken (drop i piece), over-answer)
-
-  -- where something was taken, its text was written
-  pub over-part : i ≤ length piece → 0 < part.taken → (i + part.taken ≤ length piece) × Over l store piece part.next store'' (drop (i + part.taken) piece)
-  over-part h some = go p.written p.handed
-    where
-      go : (written : Bool) → part ≡ part_of written now p.answer → (i + part.taken ≤ length piece) × Over l store piece part.next store'' (drop (i + part.taken) piece)
-      go true e = rw e (
-        omega (arith, lists-few now store' (drop i piece) out p.answer store'' out'' rest-lists, length-drop i piece, h),
-        subst (Over l store piece p.answer.next store'') (drop-drop p.answer.taken i piece) over-answer,
-      )
-      go false e = absurd (omega (arith, ap (λ (x : Part). x.taken) e, some))
+pub pieces-none : (l : Listing) (store piece : List ℕ) (next : Option Listing) (store' : List ℕ) → next ≡ None → Front l store piece store' → Pieces l store piece next store'
+pieces-none l store piece next store' e f = rw e f
 
 -- calls over the bytes that follow
-pub over-then : (l next last : Listing) (store store' store'' a b : List ℕ) → Over l store a next store' [] → Over next store' b last store'' [] → Over l store (a ++ b) last store'' []
-over-then l next last store store' store'' a b o p =
+pub over-then : (l next last : Listing) (store store' store'' a b rest : List ℕ) → Over l store a next store' [] → Over next store' b last store'' rest → Over l store (a ++ b) last store'' rest
+over-then l next last store store' store'' a b rest o p =
     let more = calls-more o.given l store a b in
-    record {
-      given = more.0 ++ p.given;
-      said = o.said ++ p.said;
-      is =
-          calls-join more.0 p.given l store (a ++ b)
-          ∙ ap (λ (z : Called). saying z.said (calls z.next z.store z.rest p.given))
-          (more.1 ∙ ap (λ (z : Called). record { next = z.next; store = z.store; rest = z.rest ++ b; said = z.said }) o.is)
-          ∙ ap (saying o.said) p.is;
-    }
+    record { given = more.0 ++ p.given; said = o.said ++ p.said; is = grind (arith, calls-join more.0 p.given l store (a ++ b), o.is, p.is) }
 
 -- ---- reads one after the other
 
@@ -89,47 +55,61 @@ over-offset l store bytes store' next o =
     let e : next.offset + 0 ≡ l.offset + length bytes = ap (λ (z : Called). z.next.offset + length z.rest) (sym o.is) ∙ calls-offset o.given l store bytes in
     omega (arith, e)
 
--- a turn
-module _ (now : Listing) (turn : Turn) (store' store'' buffer : List ℕ) (t : Turns buffer now store' turn store'') where
-  new : List ℕ
-  new = got turn.read buffer
+-- no more bytes came than were asked for
+got-few : (read : ℕ) (now : Listing) (buffer : List ℕ) → read ≤ min (left now) (length buffer) → (length (got read buffer) ≡ read) × (read ≤ left now)
+got-few read now buffer h = (omega (arith, length-take (min read (length buffer)) buffer), omega arith)
 
-  -- less is left after a turn that goes on
-  pub turn-less : goes_on turn ≡ true → left turn.next < left now
-  unfolding new
-  turn-less on = go turn.written (gave turn.read) refl refl t.1 on
+-- a turn that is handed on
+record Turned (now : Listing) (store buffer : List ℕ) (turn : Turn) (store' : List ℕ) : Type 0 where
+  few : turn.read ≤ left now
+  bytes : List ℕ
+  long : length bytes ≡ turn.read
+  over : Over now store bytes turn.next store' []
+
+module _ {now : Listing} {store buffer store' : List ℕ} where
+  turned : {turn : Turn} → Turns buffer now store (Some turn) store' → Turned now store buffer turn store'
+  turned {turn} t = go t.read t.moved t.handled
     where
-      go : (w g : Bool) → turn.written ≡ w → gave turn.read ≡ g → Pieces w now store' new turn.next store'' → w && g && ltb 0 (left turn.next) ≡ true → left turn.next < left now
-      go true true w e p on =
-          omega (arith, over-offset now store' new store'' turn.next p, got-some turn.read (left now) buffer t.0 e, got-few turn.read (left now) buffer t.0)
-      go true false w e p on = never (cc)
-      go false g w e p on = never (cc)
+      go : (read : Option ℕ) → Moved (min (left now) (length buffer)) read → Handles read buffer now store (Some turn) store' → Turned now store buffer turn store'
+      go None m h = cc
+      go (Some n) m h = let f = got-few n now buffer m in record { few = omega (arith, h.0, f.1); bytes = got n buffer; long = f.0 ∙ sym h.0; over = h.1 }
 
-  -- its bytes are listed behind those so far
-  pub turned : (store bytes : List ℕ) → length bytes ≤ 1073741824 → Over fresh store bytes now store' [] → Sofar store turn store''
-  unfolding new
-  turned store bytes few o = go turn.written refl t.1
-    where
-      go : (written : Bool) → turn.written ≡ written → Pieces written now store' new turn.next store'' → Sofar store turn store''
-      go true w p =
-          record {
-            bytes = bytes ++ new;
-            few = omega (arith, few, over-offset fresh store bytes store' now o, got-few turn.read (left now) buffer t.0, length-append bytes new);
-            kept = store'';
-            listed = over-then fresh now turn.next store store' store'' bytes new o p;
-            same = λ e. refl;
-          }
-      go false w p =
-          record { bytes = bytes; few = few; kept = store'; listed = subst (λ (l : Listing). Over fresh store bytes l store' []) (sym p.0) o; same = λ e. never (cc (w, e)) }
+  -- after one that goes on less is left, and something
+  pub turn-less : {turn : Turn} → Turns buffer now store (Some turn) store' → goes_on turn ≡ true → (left turn.next < left now) × (0 < left turn.next)
+  turn-less {turn} t on =
+      let u = turned t in
+      let e = over-offset now store u.bytes store' turn.next u.over in
+      let few = u.few in
+      let long = u.long in
+      grind (arith, nat_tests)
 
--- a turn goes on only where its texts were written and something is left
-pub goes-on-more : (turn : Turn) → goes_on turn ≡ true → (turn.written ≡ true) × (0 < left turn.next)
-goes-on-more turn e = go turn.written (gave turn.read) refl e
-  where
-    go : (w g : Bool) → turn.written ≡ w → w && g && ltb 0 (left turn.next) ≡ true → (turn.written ≡ true) × (0 < left turn.next)
-    go true true w e = (w, ltb-true 0 (left turn.next) e)
-    go true false w e = never (cc)
-    go false g w e = never (cc)
+  module _ {store₀ : List ℕ} (s : Sofar store₀ now store []) where
+    -- its bytes are listed behind those so far
+    pub sofar-more : {turn : Turn} → Turns buffer now store (Some turn) store' → Sofar store₀ turn.next store' []
+    sofar-more {turn} t =
+        let u = turned t in
+        record {
+          bytes = s.bytes ++ u.bytes;
+          few = omega (arith, s.few, over-offset fresh store₀ s.bytes store now s.listed, u.few, u.long, length-append s.bytes u.bytes);
+          listed = over-then fresh now turn.next store₀ store store' s.bytes u.bytes [] s.listed u.over;
+        }
+
+    -- where a turn fails, a front of them is
+    pub sofar-front : {turn : Option Turn} → turn ≡ None → Turns buffer now store None store' → All store₀ turn store'
+    sofar-front e t = rw e (go t.read t.moved t.handled)
+      where
+        go : (read : Option ℕ) → Moved (min (left now) (length buffer)) read → Handles read buffer now store None store' → All store₀ None store'
+        go None m h = (now, [], subst (λ (x : List ℕ). Sofar store₀ now x []) (sym h.1) s)
+        go (Some n) m h =
+            let f = got-few n now buffer m in (
+              h.0,
+              h.1,
+              record {
+                bytes = s.bytes ++ got n buffer;
+                few = omega (arith, s.few, over-offset fresh store₀ s.bytes store now s.listed, f.0, f.1, length-append s.bytes (got n buffer));
+                listed = over-then fresh now h.0 store₀ store store' s.bytes (got n buffer) h.1 s.listed h.2;
+              },
+            )
 
 -- ---- the whole listing
 
@@ -140,52 +120,28 @@ text-front w = go w.outcome
     go (wrote n) = (n, refl)
     go (refused k) = (0, refl)
 
-written-whole : (failed written : Bool) → cond failed false written ≡ true → written ≡ true
-written-whole true written e = never (cc)
-written-whole false written e = e
-
--- a whole turn after which none comes read nothing, or reached the limit
-ending : (turn : Turn) (n : ℕ) → turn.next.offset ≡ n → n ≤ 1073741824 → whole turn ≡ true → goes_on turn ≡ false → (turn.read ≡ pos 0) ⊎ (n ≡ 1073741824)
-ending turn n e few w g = go turn.read refl
-  where
-    go : (z : ℤ) → turn.read ≡ z → (turn.read ≡ pos 0) ⊎ (n ≡ 1073741824)
-    go (pos zero) z = inl z
-    go (pos (suc k)) z =
-        let written : turn.written ≡ true = (rw z at w) in
-        let none : ltb 0 (left turn.next) ≡ false = (rw (written, z) at g) in
-        inr (omega (arith, ltb-false 0 (left turn.next) none, e, few))
-    go (negsuc k) z = never (cc (rw z at w))
+-- a turn after which none comes read nothing, or reached the limit
+ending : (turn : Turn) (n : ℕ) → turn.next.offset ≡ n → n ≤ 1073741824 → goes_on turn ≡ false → (turn.read ≡ 0) ⊎ (n ≡ 1073741824)
+ending turn n e few g = grind (arith, nat_tests)
 
 -- the totals behind the texts of all calls
-module _ (turn : Turn) (store store' out : List ℕ) (room : 4110 ≤ length store) (enough : 38 ≤ length out) (a : All store turn store') (w : whole turn ≡ true) where
-  pub over-prints : Printed store turn store' (closing turn.next out).out
-  over-prints =
-      let s = a.sofar in
-      let written : turn.written ≡ true = written-whole (failed turn.read) turn.written w in
-      let o : Over fresh store s.bytes turn.next store' [] = subst (λ (x : List ℕ). Over fresh store s.bytes turn.next x []) (s.same written) s.listed in
-      let z = calls fresh store s.bytes o.given in
-      let n = text-front (closing turn.next out) in
-      let none : take (left z.next) z.rest ≡ [] = ap (λ (x : Called). take (left x.next) x.rest) o.is ∙ take-nil (left turn.next) in
-      record {
-        bytes = s.bytes;
-        listed = o;
-        few = s.few;
-        ended = ending turn (length s.bytes) (omega (arith, over-offset fresh store s.bytes store' turn.next o)) s.few w a.over;
-        n = n.0;
-        is = (λ i. (sym o.is i).said ++ (sym n.1 ∙ ap (λ (x : Called). text (closing x.next out)) (sym o.is)) i) ∙ any-calls s.bytes store o.given out room enough none;
-      }
+pub over-prints : (turn : Turn) (store store' out : List ℕ) → 4110 ≤ length store → 38 ≤ length out → All store (Some turn) store' → Printed store turn store' (closing turn.next out).out
+over-prints turn store store' out room enough (s, over) =
+    let o = s.listed in
+    let n = text-front (closing turn.next out) in
+    let z = calls fresh store s.bytes o.given in
+    let none : take (left z.next) z.rest ≡ [] = ap (λ (x : Called). take (left x.next) x.rest) o.is ∙ take-nil (left turn.next) in
+    record {
+      bytes = s.bytes;
+      listed = o;
+      few = s.few;
+      ended = ending turn (length s.bytes) (omega (arith, over-offset fresh store s.bytes store' turn.next o)) s.few over;
+      n = n.0;
+      is = (λ i. (sym o.is i).said ++ (sym n.1 ∙ ap (λ (x : Called). text (closing x.next out)) (sym o.is)) i) ∙ any-calls s.bytes store o.given out room enough none;
+    }
 
-pub all-prints : (turn turn' : Turn) (store store' out out' : List ℕ) → 4110 ≤ length store → 38 ≤ length out → All store turn store' → Closes turn out turn' out' → Prints store turn' store' out'
-all-prints turn turn' store store' out out' room enough a c w' = go (whole turn) refl c
-  where
-    -- whether the totals were written is not told by what was listed
-    then : (x : List ℕ) → Printed store turn store' x → Printed store (record { next = turn.next; read = turn.read; written = turn'.written }) store' x
-    then x p = record { bytes = p.bytes; listed = p.listed; few = p.few; ended = p.ended; n = p.n; is = p.is }
-
-    go : (w : Bool) → whole turn ≡ w
-        → cond w ((turn' ≡ record { next = turn.next; read = turn.read; written = turn'.written }) × (out' ≡ (closing turn.next out).out)) ((turn' ≡ turn) × (out' ≡ out))
-        → Printed store turn' store' out'
-    go true w (same, o) =
-        subst (λ (t : Turn). Printed store t store' out') (sym same)
-        (then out' (subst (Printed store turn store') (sym o) (over-prints turn store store' out room enough a w)))
-    go false w (same, o) = never (cc (w, w', ap whole same))
+pub closes-prints : (turn turn' : Option Turn) (store store' out out' : List ℕ) → 4110 ≤ length store → 38 ≤ length out
+    → All store turn store' → Closes turn out turn' out' → Prints store turn' store' out'
+closes-prints turn None store store' out out' room enough a c = tt
+closes-prints None (Some last) store store' out out' room enough a c = let e : ◌≡◌ {A = Option Turn} (Some last) None = c.0 in cc
+closes-prints (Some turn) (Some last) store store' out out' room enough a c = rw (c.0, c.1) (over-prints turn store store' out room enough a)

@@ -1,84 +1,66 @@
 // Lists a capture: standard input to standard output, the first 1,073,741,824 bytes and no more. It takes no argument.
 // Where a read or a write fails it says why on standard error, and writes no totals.
 // What the operating system answers is handed on, as a parameter or in a result, so that what follows from it has a contract: of a read how many
-// bytes it gave, or -1 where it failed.
+// bytes it gave, or nothing where it failed.
+// The lent buffers are parameters one by one: in a struct each contract would say `self.old.store` for `store.old`, and a read fills one of them while the others rest.
 
 #![tactic(auto)]
 
-ghost use Rattle.std.specs.Prelude.{◌≡◌, ◌≤◌, ◌<◌, min, length, is_ok};
+ghost use Rattle.std.specs.Prelude.{◌≡◌, ◌<◌};
+ghost use Rattle.std.specs.Result.{result_ok};
 ghost use Rattle.listing.specs.Piece.{left};
 ghost use Rattle.listing.specs.Within.{Inside};
-ghost use Rattle.list.specs.List.{clamp_len, Moved, Says, part_of, Parts, Pieces, Handles, Turns, gave, goes_on, whole, at_limit, All, Closes, Prints, Program};
+ghost use Rattle.list.specs.List.{Says, part_of, Parts, Pieces, Handles, Turns, goes_on, at_limit, All, Closes, Prints, Program};
 
-use buffer::Written;
 use listing::{Listed, Listing};
+use refusal::Refusal;
 use std::env::{Env, FillError};
 use std::io;
 use std::io::Read;
 
-// What a part of a piece gave: the listing then, and how many bytes were taken, 0 where its text could not be written.
-#[derive(Clone, Copy)]
-struct Part {
-    next: Listing,
-    taken: usize,
-}
+// What a read fills, a receiver's store, and what texts are written from.
+type Buffer = [u8; 262144];
 
-// What a piece gave: the listing then, and whether every text was written.
-#[derive(Clone, Copy)]
-struct Piece {
-    next: Listing,
-    written: bool,
-}
+type Store = [u8; 4110];
 
-// What a read gave: besides, what it answered.
+type Text = [u8; 65536];
+
+// What a turn leaves, a read whose bytes were listed: the listing then, and how many bytes the read gave.
 #[derive(Clone, Copy)]
 struct Turn {
     next: Listing,
-    read: isize,
-    written: bool,
+    read: usize,
 }
 
-// Whether a write was done. Says why where it failed.
-fn heed(rt: &impl Eprint, written: io::Result<()>) -> bool
-    ensures { result ≡ is_ok written }
+// What a read or a write gave. Says why where it failed.
+fn heed<T>(rt: &impl Eprint, call: &str, answer: io::Result<T>) -> Option<T>
+    ensures { result ≡ result_ok answer }
 {
-    match written {
-        Ok(()) => true,
-        Err(e) => {
-            let _ = eprintln!(rt; "list: write: {e}");
-            false
-        }
-    }
+    answer
+        .inspect_err(|e| {
+            let _ = eprintln!(rt; "list: {call}: {e}");
+        })
+        .ok()
 }
 
-// Writes the first n bytes of a text.
-fn write_front(rt: &(impl Print + Eprint), text: &[u8], n: usize) -> bool
-    requires { n ≤ length text.now }
-{
-    heed(rt, rt.write_all(&text[..n]))
-}
-
-fn write_text(rt: &(impl Print + Eprint), text: &[u8], written: Written) -> bool
+// Writes the text that a call left at the front of its buffer, where it was not refused.
+fn write_text(
+    rt: &(impl Print + Eprint),
+    text: &[u8],
+    written: Result<usize, Refusal>,
+) -> Option<()>
     requires { Inside written text.now }
     ensures { Says written result }
 {
-    match written {
-        Written::Wrote(n) => write_front(rt, text, n),
-        Written::Refused(_) => false,
-    }
+    let n = written.ok()?;
+    heed(rt, "write", rt.write_all(&text[..n]))
 }
 
-fn part_of(l: Listing, listed: Listed, written: bool) -> Part
-    ensures { result ≡ part_of written l listed }
+// Hands on the answer of `list`, where its text was written.
+fn part_of(listed: Listed, written: Option<()>) -> Option<Listed>
+    ensures { result ≡ part_of written listed }
 {
-    if written {
-        let next = listed.next;
-        return Part {
-            next,
-            taken: listed.taken,
-        };
-    }
-    Part { next: l, taken: 0 }
+    written.map(|()| listed)
 }
 
 // Lists as much of a piece as the buffer has room for, and writes the text.
@@ -88,12 +70,12 @@ fn list_part(
     store: &mut [u8],
     piece: &[u8],
     out: &mut [u8],
-) -> Part
+) -> Option<Listed>
     ensures { Parts l store.old piece.now out.old result store.new out.new }
 {
     let listed = l.list(store, piece, out);
-    let text = listed.written;
-    part_of(l, listed, write_text(rt, out, text))
+    let written = write_text(rt, out, listed.written);
+    part_of(listed, written)
 }
 
 // Lists a whole piece, part by part.
@@ -103,79 +85,38 @@ fn list_piece(
     store: &mut [u8],
     piece: &[u8],
     out: &mut [u8],
-) -> Piece
-    ensures { Pieces result.written l store.old piece.now result.next store.new }
+) -> Option<Listing>
+    ensures { Pieces l store.old piece.now result store.new }
 {
     let mut now = l;
-    let mut i: usize = 0;
-    while i < piece.len() {
-        let part = list_part(rt, now, store, &piece[i..], out);
-        let taken = part.taken;
-        let is_stuck = taken == 0;
+    let mut rest = piece;
+    while !rest.is_empty() {
+        let part = list_part(rt, now, store, rest, out)?;
+        let is_stuck = part.taken == 0;
         if is_stuck {
-            return Piece {
-                next: l,
-                written: false,
-            };
+            return None;
         }
         now = part.next;
-        i += taken;
+        rest = &rest[part.taken..];
     }
-    Piece {
-        next: now,
-        written: true,
-    }
-}
-
-fn least(a: usize, b: usize) -> usize
-    ensures { result ≡ min a b }
-{
-    if a < b { a } else { b }
-}
-
-// How many of the buffer's bytes a read gave: none where it failed.
-fn count(read: isize, buffer: &[u8]) -> usize
-    ensures in_bounds { result ≤ length buffer.now }
-    ensures value { result ≡ clamp_len read (length buffer.now) }
-{
-    if read < 0 {
-        return 0;
-    }
-    least(read as usize, buffer.len())
+    Some(now)
 }
 
 // Lists what a read gave, which stands at the front of the buffer.
 fn list_got(
     rt: &(impl Print + Eprint),
     l: Listing,
-    read: isize,
+    read: Option<usize>,
     buffer: &[u8],
     store: &mut [u8],
     out: &mut [u8],
-) -> Turn
+) -> Option<Turn>
     ensures { Handles read buffer.now l store.old result store.new }
 {
-    let bytes = count(read, buffer);
-    let piece = list_piece(rt, l, store, &buffer[..bytes], out);
-    let next = piece.next;
-    Turn {
-        next,
-        read,
-        written: piece.written,
-    }
-}
-
-// Reads once, to the front of the buffer. Where that fails it says why, and answers -1.
-fn read_some(rt: &impl Eprint, input: &mut impl Read, buffer: &mut [u8]) -> isize
-    ensures { Moved (length buffer.old) result }
-{
-    match input.read(buffer) {
-        Ok(n) => n as isize,
-        Err(e) => {
-            let _ = eprintln!(rt; "list: read: {e}");
-            -1
-        }
-    }
+    let read = read?;
+    let bytes = &buffer[..read.min(buffer.len())];
+    let next = list_piece(rt, l, store, bytes, out)?;
+    Some(Turn { next, read })
 }
 
 // Reads once, no more than is left, and lists what came. It asks for one byte at least, so that none means the end of the input.
@@ -183,110 +124,75 @@ fn read_turn(
     rt: &(impl Print + Eprint),
     input: &mut impl Read,
     l: Listing,
-    buffer: &mut [u8],
+    buffer: &mut Buffer,
     store: &mut [u8],
     out: &mut [u8],
-) -> Turn
-    requires { (0 < left l) × (0 < length buffer.old) }
+) -> Option<Turn>
+    requires { 0 < left l }
     ensures { Turns buffer.new l store.old result store.new }
 {
-    let most = least(l.left() as usize, buffer.len());
-    let read = read_some(rt, input, &mut buffer[..most]);
+    let most = (l.left() as usize).min(buffer.len());
+    let read = heed(rt, "read", input.read(&mut buffer[..most]));
     list_got(rt, l, read, buffer, store, out)
-}
-
-fn gave(read: isize) -> bool
-    ensures { result ≡ gave read }
-{
-    0 < read
 }
 
 // Whether there is more to read after a turn.
 fn goes_on(turn: Turn) -> bool
     ensures { result ≡ goes_on turn }
 {
-    if !turn.written {
-        return false;
-    }
-    if !gave(turn.read) {
-        return false;
-    }
-    let next = turn.next;
-    0 < next.left()
-}
-
-// Whether nothing failed.
-fn is_whole(turn: Turn) -> bool
-    ensures { result ≡ whole turn }
-{
-    if turn.read < 0 {
-        return false;
-    }
-    turn.written
-}
-
-fn is_at_limit(turn: Turn) -> bool
-    ensures { result ≡ at_limit turn }
-{
-    if !is_whole(turn) {
-        return false;
-    }
-    let next = turn.next;
-    next.left() == 0
+    0 < turn.read && 0 < turn.next.left()
 }
 
 // Reads and lists until the end of the input, the limit or a failure. Each turn that goes on has read a byte at least, so that less is left.
 fn list_all(
     rt: &(impl Print + Eprint),
     input: &mut impl Read,
-    buffer: &mut [u8],
+    buffer: &mut Buffer,
     store: &mut [u8],
     out: &mut [u8],
-) -> Turn
-    requires { 0 < length buffer.old }
+) -> Option<Turn>
     ensures { All store.old result store.new }
 {
     let mut now = Listing::new();
     loop {
-        let turn = read_turn(rt, input, now, buffer, store, out);
+        let turn = read_turn(rt, input, now, buffer, store, out)?;
         let is_last = !goes_on(turn);
         if is_last {
-            return turn;
+            return Some(turn);
         }
         now = turn.next;
     }
 }
 
 // Writes the totals, where nothing failed.
-fn close(rt: &(impl Print + Eprint), turn: Turn, out: &mut [u8]) -> Turn
+fn close(rt: &(impl Print + Eprint), turn: Option<Turn>, out: &mut [u8]) -> Option<Turn>
     ensures { Closes turn out.old result out.new }
 {
-    if !is_whole(turn) {
-        return turn;
-    }
-    let next = turn.next;
-    let text = next.close(out);
-    let written = write_text(rt, out, text);
-    Turn {
-        next,
-        read: turn.read,
-        written,
-    }
+    let turn = turn?;
+    let written = turn.next.close(out);
+    write_text(rt, out, written)?;
+    Some(turn)
 }
 
-// Lists the input, and closes the listing.
+// Lists the input, and closes the listing where nothing failed.
 fn list_input(
     rt: &(impl Print + Eprint),
     input: &mut impl Read,
-    buffer: &mut [u8],
-    store: &mut [u8],
-    out: &mut [u8],
-) -> Turn
-    requires { (0 < length buffer.old) × (4110 ≤ length store.old) × (4200 ≤ length out.old) }
+    buffer: &mut Buffer,
+    store: &mut Store,
+    out: &mut Text,
+) -> Option<Turn>
     ensures { Prints store.old result store.new out.new }
 {
     let turn = list_all(rt, input, buffer, store, out);
     close(rt, turn, out)
+}
+
+// Whether the listing is whole and ends at the limit.
+fn is_at_limit(turn: Option<Turn>) -> bool
+    ensures { result ≡ at_limit turn }
+{
+    turn.is_some_and(|turn| turn.next.left() == 0)
 }
 
 // Lists the input, where there is no argument beside the program's name. Whether the listing is whole and ends at the limit.
@@ -294,11 +200,10 @@ fn run(
     rt: &(impl Print + Eprint),
     input: &mut impl Read,
     arguments: usize,
-    buffer: &mut [u8],
-    store: &mut [u8],
-    out: &mut [u8],
+    buffer: &mut Buffer,
+    store: &mut Store,
+    out: &mut Text,
 ) -> bool
-    requires { (0 < length buffer.old) × (4110 ≤ length store.old) × (4200 ≤ length out.old) }
     ensures { Program arguments store.old out.old result store.new out.new }
 {
     if 1 < arguments {
@@ -307,8 +212,7 @@ fn run(
         );
         return false;
     }
-    let turn = list_input(rt, input, buffer, store, out);
-    is_at_limit(turn)
+    is_at_limit(list_input(rt, input, buffer, store, out))
 }
 
 // Says that the input goes on past the limit, where it does.
@@ -321,19 +225,16 @@ fn tell_rest(rt: &impl Eprint, input: &mut impl Read) {
 
 // How many arguments there are, the program's name among them.
 fn count_arguments(rt: &impl Env) -> usize {
-    for i in 0..usize::MAX {
-        if let Err(FillError::NotPresent) = rt.arg(i, &mut []) {
-            return i;
-        }
-    }
-    usize::MAX
+    (0..usize::MAX)
+        .find(|&i| matches!(rt.arg(i, &mut []), Err(FillError::NotPresent)))
+        .unwrap_or(usize::MAX)
 }
 
 fn main(rt: HostRuntime) {
     let mut input = rt.stdin();
-    let mut buffer = [0u8; 262144];
-    let mut store = [0u8; 4110];
-    let mut out = [0u8; 65536];
+    let mut buffer: Buffer = [0; 262144];
+    let mut store: Store = [0; 4110];
+    let mut out: Text = [0; 65536];
     let arguments = count_arguments(&rt);
     if run(
         &rt,

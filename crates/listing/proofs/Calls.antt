@@ -1,5 +1,5 @@
 -- For every stream, in every cutting and with whatever room: the texts of `list` and then that of `close` are the listing of the stream.
-use Rattle.std.proofs.Common.{◌≡◌, ℕ, zero, suc, ◌+◌, ◌-◌, ◌<◌, ◌≤◌, ltb, leb, List, [], ◌∷◌, ◌++◌, length, take, drop, sym, refl, ap, ◌∙◌, append_assoc, append-nil, one-add, arith, length-drop, take-append-drop, length-take, take_at, le-ltb, le-leb}
+use Rattle.std.proofs.Common.{◌≡◌, ℕ, zero, suc, ◌+◌, ◌-◌, ◌<◌, ◌≤◌, ltb, leb, List, [], ◌∷◌, ◌++◌, length, take, drop, sym, refl, ap, ◌∙◌, append_assoc, append-nil, arith, length-drop, take-append-drop, length-take, take_at, le-ltb, le-leb}
 use lib.Seq.{take-nil, take-append-le, take-append_seam, drop-append-le}
 use Rattle.buffer.specs.Writing.{writing}
 use Rattle.buffer.proofs.Lists.{by_cond}
@@ -115,10 +115,7 @@ gone (b ∷ bs) l store room s h =
       offset = omega (arith, g.offset);
       frames = omega (arith, g.frames, (frames-more a.told l.frames (soi_of l) a.store (omega (arith, s.frames, s.limit))).0, frames-join block p.blocks);
       refusals = omega (arith, g.refusals, (refusals-more a.told l.refusals (soi_of l) a.store (omega (arith, s.refusals, s.limit))).0, refusals-join block p.blocks);
-      whole = λ more.
-          ap (λ (x : List Block). block ++ x) (g.whole more)
-          ∙ sym (append_assoc block p.blocks (blocks_here p.next.receiver p.store p.next.offset (drop p.taken bs ++ more)))
-          ∙ ap (λ (k : ℕ). block ++ p.blocks ++ blocks_here p.next.receiver p.store p.next.offset (drop k (b ∷ bs) ++ more)) (sym (one-add p.taken));
+      whole = λ more. grind (arith, append_assoc, g.whole more);
     })
     (λ t. gone-none l store (b ∷ bs) s)
 
@@ -132,10 +129,10 @@ take-swap (suc m) (suc k) [] = refl
 take-swap (suc m) (suc k) (x ∷ s) = ap (λ (r : List ℕ). x ∷ r) (take-swap m k s)
 
 drop-take : (t k : ℕ) (s : List ℕ) → drop t (take k s) ≡ take (k - t) (drop t s)
-drop-take zero k s = let e : k ≡ k - 0 = omega arith in ap (λ (j : ℕ). take j s) e
-drop-take (suc t) zero s = let e : 0 ≡ 0 - suc t = omega arith in ap (λ (j : ℕ). take j (drop (suc t) s)) e
+drop-take zero k s = grind arith
+drop-take (suc t) zero s = grind arith
 drop-take (suc t) (suc k) [] = sym (take-nil (suc k - suc t))
-drop-take (suc t) (suc k) (x ∷ s) = let e : k - t ≡ suc k - suc t = omega arith in drop-take t k s ∙ ap (λ (j : ℕ). take j (drop t s)) e
+drop-take (suc t) (suc k) (x ∷ s) = grind (arith, drop-take t k s)
 
 -- ---- calls
 
@@ -194,13 +191,10 @@ stood-then l store stream m store₁ rest₁ said₁ n store₂ rest₂ said₂ 
     record {
       blocks = p.blocks ++ q.blocks;
       sound = q.sound;
-      is = ap (λ (x : List ℕ). x ++ said₂) p.is ∙ ap (λ (x : List ℕ). lines p.blocks ++ x) q.is ∙ sym (lines_join p.blocks q.blocks);
+      is = grind (arith, p.is, q.is, lines_join);
       frames = omega (arith, p.frames, q.frames, frames-join p.blocks q.blocks);
       refusals = omega (arith, p.refusals, q.refusals, refusals-join p.blocks q.blocks);
-      whole =
-          p.whole
-          ∙ ap (λ (x : List Block). p.blocks ++ x) q.whole
-          ∙ sym (append_assoc p.blocks q.blocks (blocks_here n.receiver store₂ n.offset (take (left n) rest₂)));
+      whole = grind (arith, p.whole, q.whole, append_assoc);
     }
 
 stood : (gs : List Given) (l : Listing) (store stream : List ℕ) → Sound l store
@@ -226,10 +220,7 @@ unfolding calls
 calls-join [] hs l store stream = refl
 calls-join (g ∷ gs) hs l store stream =
     let a = list l store (take g.most stream) g.out in
-    let z = calls a.next a.store (drop a.taken stream) gs in
-    let y = calls z.next z.store z.rest hs in
-    ap (saying (text a.left)) (calls-join gs hs a.next a.store (drop a.taken stream))
-    ∙ ap (λ (t : List ℕ). record { next = y.next; store = y.store; rest = y.rest; said = t }) (sym (append_assoc (text a.left) z.said y.said))
+    grind (arith, append_assoc, calls-join gs hs a.next a.store (drop a.taken stream))
 
 -- the offset moves by what was taken
 pub calls-offset : (gs : List Given) (l : Listing) (store stream : List ℕ) → let z = calls l store stream gs in z.next.offset + length z.rest ≡ l.offset + length stream
@@ -254,9 +245,7 @@ calls-more (g ∷ gs) l store stream more =
     take-append-le (length piece) stream more few ∙ ap (take (length piece)) (sym (take-append-drop g.most stream)) ∙ take-append_seam piece (drop g.most stream) in
     let rest : drop a.taken (stream ++ more) ≡ drop a.taken stream ++ more = drop-append-le a.taken stream more (omega (arith, list-few l store piece g.out)) in (
       record { most = length piece; out = g.out } ∷ h.0,
-      ap (λ (p : List ℕ). let x = list l store p g.out in saying (text x.left) (calls x.next x.store (drop x.taken (stream ++ more)) h.0)) same
-          ∙ ap (λ (r : List ℕ). saying (text a.left) (calls a.next a.store r h.0)) rest
-          ∙ ap (saying (text a.left)) h.1,
+      grind arith,
     )
 
 -- ---- the theorem
@@ -284,7 +273,6 @@ any-calls stream store gs out room h none =
     let frames : z.next.frames ≡ frames_in bs = omega (arith, s.frames, ap frames_in is) in
     let refusals : z.next.refusals ≡ refusals_in bs = omega (arith, s.refusals, ap refusals_in is) in
     let small = s.sound in
-    ap (λ (x : List ℕ). z.said ++ x) (closing-text z.next out (omega (arith, small.frames, small.limit)) (omega (arith, small.refusals, small.limit)) h)
-    ∙ ap (λ (x : List ℕ). x ++ totals z.next.frames z.next.refusals) (s.is ∙ ap lines is)
-    ∙ ap (λ (x : ℕ). lines bs ++ totals x z.next.refusals) frames
-    ∙ ap (λ (x : ℕ). lines bs ++ totals (frames_in bs) x) refusals
+    let close = closing-text z.next out (omega (arith, small.frames, small.limit)) (omega (arith, small.refusals, small.limit)) h in
+    let said = s.is in
+    grind arith

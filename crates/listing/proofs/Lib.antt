@@ -1,3 +1,4 @@
+pub mod Events
 pub mod Parts
 pub mod Streams
 pub mod Calls

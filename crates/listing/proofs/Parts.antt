@@ -1,33 +1,40 @@
--- A piece that is listed run by run is listed byte by byte: one law for a run (`turned`), one for what was listed so far (`Sofar`).
+-- A piece that is listed run by run is listed byte by byte: one law for a run (`turned`), one for what is left after it (`ended`).
 use Rattle.std.proofs.Common.{◌≡◌, ℕ, suc, ◌+◌, ◌-◌, ◌<◌, ◌≤◌, Bool, true, false, cond, ltb, leb, List, [], ◌∷◌, ◌++◌, length, take, drop, sym, refl, ap, ◌∙◌, subst, append_assoc, append-nil, add-zero, add_assoc, zero-add, one-add, arith, ltb→lt, nltb→le, length-append, length-drop, take-append-drop, length-take, length-take-le, take_all, drop-drop, le-ltb, lt-ltb, le-leb}
-use borrow.Author.Tests.{lt-leb}
-use Rattle.buffer.specs.Put.{puts, Put}
-use Rattle.buffer.specs.declared.Written.{Written}
-use Rattle.buffer.specs.Writing.{wrote, refused as refused_by, Left, leaves, writing, Writes}
-use Rattle.buffer.proofs.Lists.{never, by_cond}
-use Rattle.buffer.proofs.Puts.{put_then, put-none, puts-front}
+use borrow.Author.Tests.{lt-leb, ltb-false}
+use Rattle.buffer.specs.Put.{puts}
+use Rattle.std.specs.Prelude.{Result, Ok, Err, Option, Some, None, ◌||◌}
+use Rattle.std.proofs.lemmas.List.{take_min, take_rest}
+use Rattle.std.proofs.lemmas.Bool.Decides.{nat_tests}
+use Rattle.refusal.specs.Number.{number}
+use Rattle.refusal.specs.declared.Refusal.TheVariants.{BufferTooShort, ReceiverBeyondStore}
+use Rattle.refusal.specs.declared.Refusal.{Refusal}
+use Rattle.buffer.specs.Writing.{Outcome, wrote, refused as refused_by, paper as written_paper, Left, leaves, writing, Writes}
+use Rattle.buffer.proofs.Lists.{by_cond}
+use Rattle.buffer.proofs.Puts.{puts-nil, puts-front}
 use Rattle.hex_chars.specs.Hex.{pair_of, hexes}
 use Rattle.frame.specs.declared.Header.{Header}
-use Rattle.frame.specs.Frame.{chars, seal, packed}
+use Rattle.frame.specs.declared.Frame.{Frame}
+use Rattle.frame.specs.declared.Fault.{Fault}
+use Rattle.frame.specs.Frame.{chars, seal, packed, info_at}
 use Rattle.frame.specs.Judge.{Told, nothing, frame, refused, refused_at, judge}
 use Rattle.frame.proofs.Judging.{judge-accepts}
 use Rattle.receiver.specs.declared.Receiver.{Receiver}
 use Rattle.receiver.specs.declared.Receiver.TheVariants.{Waiting, Open}
-use Rattle.receiver.specs.declared.Ran.{Ran}
 use Rattle.receiver.specs.Step.{Kind, soi, cr, other, kind, After, step_by, beyond, step, paper}
-use Rattle.receiver.specs.Run.{is_nothing, count_of, Run, later, stops, stepping, run, run_of}
+use Rattle.receiver.specs.Run.{is_nothing, count_of, Run, later, stops, stepping, run}
 use Rattle.receiver.specs.Pass.{Fits}
 use Rattle.receiver.specs.Stream.{after}
-use Rattle.receiver.proofs.Rows.{step-within, within}
+use Rattle.receiver.proofs.Rows.{step-within, within, not_beyond}
 use Rattle.receiver.proofs.Running.{run-within-is}
 use Rattle.receiver.proofs.Receive.{after-fits}
 use Rattle.listing.specs.declared.Listing.{Listing}
 use Rattle.listing.specs.declared.Listed.{Listed}
 use Rattle.listing.specs.declared.Part.{Part as PartOf}
-use Rattle.texts.specs.Block.{Block, block_of, frame_lines, lines, totals}
-use Rattle.listing.specs.Piece.{left, frames_then, refusals_then, onward, soi_of, Part, rests, behind, listing, Call, refuses, prints, list, Lists, closing}
-use Rattle.listing.specs.Within.{Inside, turn, Stands, Puts}
-use Rattle.texts.proofs.Texts.{lines_join}
+use Rattle.texts.specs.Block.{Block, frame_block, block_of, frame_lines, lines, totals}
+use Rattle.listing.specs.Piece.{left, onward, soi_of, Part, rests, behind, listing, Call, refuses, prints, list, Lists, closing}
+use Rattle.listing.specs.Within.{Inside, turn, stored_lines, Stands, Puts, call_refusal}
+use Rattle.listing.proofs.Events.{event_steps}
+use Rattle.texts.proofs.Texts.{puts-puts_at, lines-one, lines_join}
 
 -- ---- a frame that is told stands in the store
 
@@ -62,18 +69,8 @@ step-stands r store b f = rw (step-within r store b f.0 f.1) (stands_by (kind b)
 
 -- ---- parts, one behind the other
 
-with_taken : Part → ℕ → Part
-with_taken p k = record { next = p.next; store = p.store; taken = k; blocks = p.blocks }
-
-behind-none : (p : Part) → behind 0 [] p ≡ p
-unfolding with_taken
-behind-none p = ap (with_taken p) (zero-add p.taken)
-
 behind-behind : (i j : ℕ) (bs cs : List Block) (p : Part) → behind i bs (behind j cs p) ≡ behind (i + j) (bs ++ cs) p
-behind-behind i j bs cs p =
-    let t = add_assoc i j p.taken in
-    let b = append_assoc bs cs p.blocks in
-    λ x. record { next = p.next; store = p.store; taken = sym t x; blocks = sym b x }
+behind-behind i j bs cs p = grind (arith, append_assoc)
 
 -- no room, or nothing left: no byte is taken
 full : (l : Listing) (store : List ℕ) (room : ℕ) (piece : List ℕ) → room < 4200 → listing l store room piece ≡ rests l store
@@ -90,9 +87,9 @@ used-up l store room (b ∷ bs) h = absurd (omega arith)
 
 is-nothing : (t : Told) → is_nothing t ≡ true → t ≡ nothing
 is-nothing nothing e = refl
-is-nothing (frame h n) e = never (cc)
-is-nothing (refused k) e = never (cc)
-is-nothing (refused_at k p) e = never (cc)
+is-nothing (frame h n) e = cc
+is-nothing (refused k) e = cc
+is-nothing (refused_at k p) e = cc
 
 -- what is left after a part of a piece
 abbrev after-part : Part → ℕ → List ℕ → Part
@@ -122,26 +119,10 @@ module _ (l : Listing) (store : List ℕ) (room : ℕ) (b : ℕ) (bs : List ℕ)
       → (k : Run) → listing (onward l 1 a.next nothing) a.store room bs ≡ after-part (turn (onward l 1 a.next nothing) k) room bs
       → listing l store room (b ∷ bs) ≡ after-part (turn l (later 1 k)) room (b ∷ bs)
   unfolding lines
-  goes_on n h k ih =
-      let m = k.taken in
-      let bl : ℕ → List Block = λ (x : ℕ). block_of (x - (k.held + 2)) k.told k.store in
-      let next : ℕ → Listing = λ (x : ℕ). record { receiver = k.next; offset = x; frames = frames_then l.frames k.told; refusals = refusals_then l.refusals k.told } in
-      let tail : ℕ → List ℕ → Part = λ (x : ℕ) (s : List ℕ). listing (next x) k.store (room - length (lines (bl x))) s in
-      let whole : room - 0 ≡ room = omega arith in
-      let x : ℕ = l.offset + (1 + m) in
-      first h
-      ∙ ap (λ (t : Told). behind 1 (block_of (soi_of l) t a.store) (listing (onward l 1 a.next t) a.store (room - length (lines (block_of (soi_of l) t a.store))) bs)) n
-      ∙ ap (λ (c : ℕ). behind 1 [] (listing (onward l 1 a.next nothing) a.store c bs)) whole
-      ∙ ap (behind 1 []) ih
-      ∙ ap (λ (y : ℕ). behind 1 [] (behind m (bl y) (tail y (drop m bs)))) (add_assoc l.offset 1 m)
-      ∙ behind-behind 1 m [] (bl x) (tail x (drop m bs))
-      ∙ ap (λ (j : ℕ). behind (1 + m) (bl x) (tail x (drop j (b ∷ bs)))) (sym (one-add m))
+  goes_on n h k ih = let f = first h in grind (arith, behind-behind)
 
   stops-here : 4200 ≤ room → listing l store room (b ∷ bs) ≡ after-part (turn l (stops (count_of l.receiver) a)) room (b ∷ bs)
-  stops-here h =
-      let at : soi_of l ≡ l.offset + 1 - (count_of l.receiver + 2) = omega arith in
-      first h
-      ∙ ap (λ (x : ℕ). behind 1 (block_of x a.told a.store) (listing (onward l 1 a.next a.told) a.store (room - length (lines (block_of x a.told a.store))) bs)) at
+  stops-here h = let f = first h in grind arith
 
   turned_by : (t : Bool) → is_nothing a.told ≡ t → Turned (onward l 1 a.next a.told) a.store room bs (stepping a.next a.store bs)
       → Turned l store room (b ∷ bs) (cond t (later 1 (stepping a.next a.store bs)) (stops (count_of l.receiver) a))
@@ -180,191 +161,128 @@ turned (b ∷ bs) l store room f =
     let a = step l.receiver store b in
     turned_by l store room b bs f a refl (is_nothing a.told) refl (turned bs (onward l 1 a.next a.told) a.store room (fits-then l store room b bs f a refl))
 
--- what a run of the code gives
-module _ (l : Listing) (store piece : List ℕ) (f : Fits l.receiver store) (ran : Ran) (store' : List ℕ) (e : run_of ran store' ≡ run l.receiver store piece) where
-  ran-is : run_of ran store' ≡ stepping l.receiver store piece
-  ran-is = e ∙ run-within-is l.receiver store piece f.0 f.1
+-- the lines of a frame are those of the characters that stand in the store
+pub frame-lines : (event : Option (Result Frame Fault)) (judged : Result Frame Fault) (f : Frame) (at : ℕ) (store : List ℕ) → event ≡ Some judged → judged ≡ Ok f
+    → Stands (paper event) store → stored_lines at f.lenid store ≡ lines (block_of at (paper event) store)
+frame-lines event judged f at store e d h =
+    let s = (rw (e, d) at h) in
+    rw (e, d) (s.1 at ∙ sym (lines-one (frame_block at f.header (info_at f.lenid store))))
 
-  pub ran-turned : Turned l store 0 piece (run_of ran store')
-  unfolding ran-is
-  ran-turned = subst (Turned l store 0 piece) (sym ran-is) (turned piece l store 0 f)
+-- a run that isn't refused
+pub run-within : (r : Receiver) (store piece : List ℕ) → 4110 ≤ length store → count_of r ≤ 4110
+    → let a = stepping r store piece in
+    (run r store piece ≡ a) × (a.taken ≤ length piece) × (a.held ≤ 4110) × Stands a.told a.store
+run-within r store piece h k =
+    let t = turned piece (record { receiver = r; offset = 0; frames = 0; refusals = 0 }) store 0 (h, k) in
+    (run-within-is r store piece h k, t.few, t.held, t.stands)
 
-  pub turn-puts : (out out' : List ℕ) (at opened end frames refusals : ℕ) → opened ≡ l.offset + ran.taken - (ran.held + 2)
-      → Put out at (lines (block_of opened (paper ran.event) store')) out' end
-      → frames ≡ frames_then l.frames (paper ran.event) → refusals ≡ refusals_then l.refusals (paper ran.event)
-      → Puts (turn l (stepping l.receiver store piece)) out at
-      (record { next = record { receiver = ran.next; offset = l.offset + ran.taken; frames = frames; refusals = refusals }; taken = ran.taken; end = end }) store' out'
-  unfolding ran-is
-  turn-puts out out' at opened end frames refusals se p fe ge =
-      let answer : PartOf = record { next = record { receiver = ran.next; offset = l.offset + ran.taken; frames = frames; refusals = refusals }; taken = ran.taken; end = end } in
-      subst (λ (a : Run). Puts (turn l a) out at answer store' out') ran-is
-      (record {
-        part = λ i. record {
-          next = record { receiver = ran.next; offset = l.offset + ran.taken; frames = fe i; refusals = ge i };
-          store = store';
-          taken = ran.taken;
-          blocks = block_of (l.offset + ran.taken - (ran.held + 2)) (paper ran.event) store';
-        };
-        put = subst (λ (x : ℕ). Put out at (lines (block_of x (paper ran.event) store')) out' end) se p;
-      })
+pub ruleset run_steps = (run-within)
+
+pub ruleset advance_steps = (run_steps, event_steps)
+
+-- and one over the rest of a piece, as the loop makes it
+pub run-rest : (r : Receiver) (store piece : List ℕ) (i : ℕ) → 4110 ≤ length store → count_of r ≤ 4110 → i < length piece
+    → let a = stepping r store (drop i piece) in
+    (stepping r store (drop i piece) ≡ a) × (i + a.taken ≤ length piece) × (0 < a.taken) × Fits a.next a.store
+run-rest r store piece i h k some =
+    let t = turned (drop i piece) (record { receiver = r; offset = 0; frames = 0; refusals = 0 }) store 0 (h, k) in
+    (refl, grind (arith, length-drop, t.few), t.some (grind (arith, length-drop)), t.fits)
 
 -- ---- what was listed so far
 
--- the rest of a piece, as it is lent
-pub lent : (piece : List ℕ) (i : ℕ) → take (length piece - i) (drop i piece) ≡ drop i piece
-lent piece i = let all : length (drop i piece) ≤ length piece - i = omega (arith, length-drop i piece) in take_all (length piece - i) (drop i piece) all
+-- what is left after a part of a piece: behind i bytes, and behind a text that ends at place end
+pub record Ended : Type 0 where
+  pub next : Listing
+  pub store : List ℕ
+  pub taken : ℕ
+  pub out : List ℕ
+  pub end : ℕ
 
--- a text that was put ends within the buffer
-put-end : (out : List ℕ) (at : ℕ) (x out' : List ℕ) (r : ℕ) → at ≤ length out → length out' ≡ length out → Put out at x out' r → r ≤ length out
+unfoldable pub ended : Part → List ℕ → ℕ → ℕ → Ended
+ended p out end i = record { next = p.next; store = p.store; taken = i + p.taken; out = puts out end (lines p.blocks); end = end + length (lines p.blocks) }
+
+-- the same of a part that is put behind another
+ended-behind : (k : ℕ) (bs : List Block) (q : Part) (out : List ℕ) (end i : ℕ) → end + length (lines bs) ≤ length out
+    → ended (behind k bs q) out end i ≡ ended q (puts out end (lines bs)) (end + length (lines bs)) (i + k)
+unfolding ended
+ended-behind k bs q out end i h = grind (arith, lines_join, puts-puts_at, length-append)
+
+-- how long a buffer is with a text in it
+length-puts : (out : List ℕ) (at : ℕ) (x : List ℕ) → at ≤ length out → length (puts out at x) ≡ at + length x + (length out - (at + length x))
 unfolding puts
-put-end out at x out' r h kept p =
-    omega (arith, p.end, ap length p.is, length-append (take at out ++ x) (drop (at + length x) out), length-append (take at out) x, length-take-le at out h)
+length-puts out at x h = grind (arith, length-append, length-take-le, length-drop)
 
-pub record Sofar (l₀ : Listing) (store₀ piece out₀ : List ℕ) (l : Listing) (store out : List ℕ) (i end : ℕ) : Type 0 where
-  pub blocks : List Block
-  pub put : Put out₀ 0 (lines blocks) out end
-  pub rest : listing l₀ store₀ (length out₀) piece ≡ behind i blocks (listing l store (length out₀ - end) (drop i piece))
-  pub few : i ≤ length piece
-  pub fits : Fits l.receiver store
-  pub limit : length piece - i ≤ left l
-  pub within : end ≤ length out₀
+-- a run more
+pub ended-run : (l : Listing) (store piece out : List ℕ) (end i : ℕ) (one : PartOf) (store' out' : List ℕ)
+    → Fits l.receiver store → end + 4200 ≤ length out → length out' ≡ length out
+    → Puts (turn l (stepping l.receiver store (take (length piece - i) (drop i piece)))) out end one store' out'
+    → (one.end ≤ length out')
+    × (ended (listing one.next store' (length out' - one.end) (drop (i + one.taken) piece)) out' one.end (i + one.taken) ≡ ended (listing l store (length out - end) (drop i piece)) out end i)
+ended-run l store piece out end i one store' out' f room kept p =
+    let a = stepping l.receiver store (drop i piece) in
+    let t = turned (drop i piece) l store (length out - end) f in
+    let long = length-puts out end (lines (turn l a).blocks) (omega arith) in
+    grind (arith, take_rest, drop-drop, ended-behind, t.rest (omega arith))
 
-pub sofar-none : (l : Listing) (store piece out : List ℕ) → Fits l.receiver store → length piece ≤ left l → Sofar l store piece out l store out 0 0
-unfolding lines
-sofar-none l store piece out f h =
-    let whole : length out ≡ length out - 0 = omega arith in
-    record {
-      blocks = [];
-      put = put-none out 0;
-      rest = sym (behind-none (listing l store (length out) piece)) ∙ ap (λ (c : ℕ). behind 0 [] (listing l store c piece)) whole;
-      few = omega arith;
-      fits = f;
-      limit = omega arith;
-      within = omega arith;
-    }
+-- where it stops, what was put is all of it
+all-put : (whole : Part) (out₀ : List ℕ) (part : PartOf) (store out : List ℕ) → ended (rests part.next store) out part.end part.taken ≡ ended whole out₀ 0 0 → Puts whole out₀ 0 part store out
+unfolding ended lines
+all-put whole out₀ part store out e = grind (arith, puts-nil)
 
-module _ (l₀ : Listing) (store₀ piece out₀ : List ℕ) (l : Listing) (store out : List ℕ) (i end : ℕ) (s : Sofar l₀ store₀ piece out₀ l store out i end) where
-  -- a run more
-  module _ (answer : PartOf) (store' out' : List ℕ) (room : 4200 ≤ length out₀ - end) (p : Puts (turn l (stepping l.receiver store (drop i piece))) out end answer store' out') where
-    t : Turned l store (length out₀ - end) (drop i piece) (stepping l.receiver store (drop i piece))
-    t = turned (drop i piece) l store (length out₀ - end) s.fits
+module _ (l₀ : Listing) (store₀ piece out₀ : List ℕ) (part : PartOf) (store out : List ℕ)
+    (whole : ended (listing part.next store (length out - part.end) (drop part.taken piece)) out part.end part.taken ≡ ended (listing l₀ store₀ (length out₀) piece) out₀ 0 0) where
+  put-all : listing part.next store (length out - part.end) (drop part.taken piece) ≡ rests part.next store → Puts (listing l₀ store₀ (length out₀) piece) out₀ 0 part store out
+  put-all e = all-put (listing l₀ store₀ (length out₀) piece) out₀ part store out (ap (λ (p : Part). ended p out part.end part.taken) (sym e) ∙ whole)
 
-    taken_is : answer.taken ≡ (stepping l.receiver store (drop i piece)).taken
-    taken_is = ap (λ (q : Part). q.taken) p.part
+  pub stops-full : length out - part.end < 4200 → Puts (listing l₀ store₀ (length out₀) piece) out₀ 0 part store out
+  stops-full h = put-all (full part.next store (length out - part.end) (drop part.taken piece) h)
 
-    pub turn-few : i + answer.taken ≤ length piece
-    unfolding t taken_is
-    turn-few = omega (arith, t.few, taken_is, length-drop i piece, s.few)
+  pub stops-end : length piece ≤ part.taken → Puts (listing l₀ store₀ (length out₀) piece) out₀ 0 part store out
+  stops-end h = put-all (used-up part.next store (length out - part.end) (drop part.taken piece) (omega (arith, length-drop part.taken piece)))
 
-    pub turn-some : i < length piece → 0 < answer.taken
-    unfolding t taken_is
-    turn-some h = omega (arith, t.some (omega (arith, length-drop i piece)), taken_is)
-
-    pub sofar-turn : length out ≡ length out₀ → length out' ≡ length out → Sofar l₀ store₀ piece out₀ answer.next store' out' (i + answer.taken) answer.end
-    unfolding t taken_is
-    sofar-turn kept kept' =
-        let a : Run = stepping l.receiver store (drop i piece) in
-        let bl : List Block = (turn l a).blocks in
-        let bs : List Block = s.blocks in
-        let c : ℕ = length out₀ - end in
-        let both : Put out₀ 0 (lines bs ++ lines bl) out' answer.end = put_then (record { fits = omega (arith, s.put.end, s.within) }) s.put p.put in
-        let less : c - length (lines bl) ≡ length out₀ - answer.end = omega (arith, p.put.end) in
-        let next-is : answer.next ≡ onward l a.taken a.next a.told = ap (λ (q : Part). q.next) p.part in
-        let offset-is : answer.next.offset ≡ l.offset + a.taken = ap (λ (x : Listing). x.offset) next-is in
-        let store_is : store' ≡ a.store = ap (λ (q : Part). q.store) p.part in
-        record {
-          blocks = bs ++ bl;
-          put = subst (λ (x : List ℕ). Put out₀ 0 x out' answer.end) (sym (lines_join bs bl)) both;
-          rest =
-              s.rest
-              ∙ ap (behind i bs) (t.rest room)
-              ∙ behind-behind i a.taken bs bl (listing (turn l a).next a.store (c - length (lines bl)) (drop a.taken (drop i piece)))
-              ∙ ap (λ (q : Part). behind (i + q.taken) (bs ++ q.blocks) (listing q.next q.store (c - length (lines q.blocks)) (drop q.taken (drop i piece)))) (sym p.part)
-              ∙ ap (λ (x : ℕ). behind (i + answer.taken) (bs ++ bl) (listing answer.next store' x (drop answer.taken (drop i piece)))) less
-              ∙ ap (λ (x : List ℕ). behind (i + answer.taken) (bs ++ bl) (listing answer.next store' (length out₀ - answer.end) x)) (drop-drop answer.taken i piece);
-          few = turn-few;
-          fits = (subst (λ (x : List ℕ). 4110 ≤ length x) (sym store_is) t.fits.0, subst (λ (x : Listing). count_of x.receiver ≤ 4110) (sym next-is) t.fits.1);
-          limit = omega (arith, s.limit, taken_is, offset-is, turn-few);
-          within = omega (arith, put-end out end (lines bl) out' answer.end (omega (arith, s.within)) kept' p.put);
-        }
-
-  -- where it stops
-  ends : listing l store (length out₀ - end) (drop i piece) ≡ rests l store
-      → Puts (listing l₀ store₀ (length out₀) piece) out₀ 0 (record { next = l; taken = i; end = end }) store out
-  ends e =
-      let bs : List Block = s.blocks in
-      let whole : Part = listing l₀ store₀ (length out₀) piece in
-      let mk : List Block → Part = λ (x : List Block). record { next = l; store = store; taken = i; blocks = x } in
-      let is : whole ≡ mk bs =
-      s.rest ∙ ap (behind i bs) e ∙ ap (λ (k : ℕ). record { next = l; store = store; taken = k; blocks = bs ++ [] }) (add-zero i) ∙ ap mk (append-nil bs) in
-      let same : whole.blocks ≡ bs = ap (λ (q : Part). q.blocks) is in
-      record {
-        part = ap mk same ∙ sym is;
-        put = subst (λ (x : List Block). Put out₀ 0 (lines x) out end) (sym same) s.put;
-      }
-
-  pub sofar-full : length out₀ - end < 4200 → Puts (listing l₀ store₀ (length out₀) piece) out₀ 0 (record { next = l; taken = i; end = end }) store out
-  unfolding ends
-  sofar-full h = ends (full l store (length out₀ - end) (drop i piece) h)
-
-  pub sofar-end : length piece ≤ i → Puts (listing l₀ store₀ (length out₀) piece) out₀ 0 (record { next = l; taken = i; end = end }) store out
-  unfolding ends
-  sofar-end h = ends (used-up l store (length out₀ - end) (drop i piece) (omega (arith, length-drop i piece)))
+pub ruleset loop_steps = (run-rest, take_rest, stops-full, stops-end, length-drop)
 
 -- ---- the call
 
-pub least-le : (a b r : ℕ) → r ≡ cond (ltb a b) a b → (r ≤ a) × (r ≤ b)
-least-le a b r e =
-    rw e
-    (by_cond (λ (k : ℕ). (k ≤ a) × (k ≤ b)) (ltb a b) (λ t. (omega arith, omega (arith, ltb→lt a b t))) (λ t. (nltb→le a b t, omega arith)))
+-- by what it is refused with, if at all
+abbrev pub answered : Option Refusal → Listing → List ℕ → List ℕ → List ℕ → Call
+answered (Some r) l store piece out = refuses (number r) l store out
+answered None l store piece out = prints (listing l store (length out) (take (left l) piece)) out
 
-take-least : (a : ℕ) (s : List ℕ) → take (cond (ltb a (length s)) a (length s)) s ≡ take a s
-take-least a s =
-    by_cond (λ (k : ℕ). take k s ≡ take a s) (ltb a (length s)) (λ t. refl)
-    (λ t. take_all (length s) s (omega arith) ∙ sym (take_all a s (nltb→le a (length s) t)))
+pub list-is : (l : Listing) (store piece out : List ℕ) → list l store piece out ≡ answered (call_refusal l store out) l store piece out
+unfolding list call_refusal
+list-is l store piece out = go (ltb (length store) 4110) (ltb (length out) 4200) (beyond l.receiver)
+  where
+    go : (a b c : Bool)
+        → cond a (refuses 32 l store out) (cond b (refuses 32 l store out) (cond c (refuses 35 l store out) (prints (listing l store (length out) (take (left l) piece)) out)))
+        ≡ answered (cond (a || b) (Some BufferTooShort) (cond c (Some ReceiverBeyondStore) None)) l store piece out
+    go true b c = refl
+    go false true c = refl
+    go false false true = refl
+    go false false false = refl
 
-module _ (l : Listing) (store piece out : List ℕ) where
-  pub list-short-store : length store < 4110 → refuses 32 l store out ≡ list l store piece out
-  unfolding list
-  list-short-store h = rw (lt-ltb (length store) 4110 h)
+-- one that isn't refused keeps to the store
+pub unrefused : (l : Listing) (store out : List ℕ) → call_refusal l store out ≡ None
+    → (call_refusal l store out ≡ None) × (4110 ≤ length store) × (count_of l.receiver ≤ 4110)
+unfolding call_refusal
+unrefused l store out e = go (ltb (length store) 4110) (ltb (length out) 4200) (beyond l.receiver) refl refl e
+  where
+    go : (a b c : Bool) → ltb (length store) 4110 ≡ a → beyond l.receiver ≡ c
+        → cond (a || b) (Some BufferTooShort) (cond c (Some ReceiverBeyondStore) None) ≡ None
+        → (call_refusal l store out ≡ None) × (4110 ≤ length store) × (count_of l.receiver ≤ 4110)
+    go true b c p q n = cc
+    go false true c p q n = cc
+    go false false true p q n = cc
+    go false false false p q n = (e, ltb-false (length store) 4110 p, not_beyond l.receiver q)
 
-  pub list-short-out : 4110 ≤ length store → length out < 4200 → refuses 32 l store out ≡ list l store piece out
-  unfolding list
-  list-short-out h k = rw (le-ltb (length store) 4110 h, lt-ltb (length out) 4200 k)
-
-  pub list-beyond : 4110 ≤ length store → 4200 ≤ length out → beyond l.receiver ≡ true → refuses 35 l store out ≡ list l store piece out
-  unfolding list
-  list-beyond h k e = rw (le-ltb (length store) 4110 h, le-ltb (length out) 4200 k, e)
-
-  pub list-is : 4110 ≤ length store → 4200 ≤ length out → beyond l.receiver ≡ false → prints (listing l store (length out) (take (left l) piece)) out ≡ list l store piece out
-  unfolding list
-  list-is h k e = rw (le-ltb (length store) 4110 h, le-ltb (length out) 4200 k, e)
-
-  pub list_puts : (most : ℕ) (answer : PartOf) (store' out' : List ℕ) → 4110 ≤ length store → 4200 ≤ length out → beyond l.receiver ≡ false
-      → most ≡ cond (ltb (left l) (length piece)) (left l) (length piece) → Puts (listing l store (length out) (take most piece)) out 0 answer store' out'
-      → record { next = answer.next; store = store'; taken = answer.taken; left = leaves (wrote answer.end) out' } ≡ list l store piece out
-  list_puts most answer store' out' h k e m p =
-      let w : Part = listing l store (length out) (take most piece) in
-      let text : List ℕ = lines w.blocks in
-      let end : answer.end ≡ length text = omega (arith, p.put.end) in
-      let cut : take most piece ≡ take (left l) piece = ap (λ (x : ℕ). take x piece) m ∙ take-least (left l) piece in
-      ap (λ (q : Part). record { next = q.next; store = q.store; taken = q.taken; left = leaves (wrote answer.end) out' }) p.part
-      ∙ ap (λ (x : ℕ). record { next = w.next; store = w.store; taken = w.taken; left = leaves (wrote x) out' }) end
-      ∙ ap (λ (x : List ℕ). record { next = w.next; store = w.store; taken = w.taken; left = leaves (wrote (length text)) x }) (p.put.is ∙ puts-front out text)
-      ∙ ap (λ (x : List ℕ). prints (listing l store (length out) x) out) cut
-      ∙ list-is h k e
+pub ruleset call_steps = (list-is, unrefused, take_min, length-take, puts-front)
 
 -- ---- what a caller may lean on, of any listing
 
 listing-few : (piece : List ℕ) (l : Listing) (store : List ℕ) (room : ℕ) → (listing l store room piece).taken ≤ length piece
 unfolding listing
 listing-few [] l store room = omega arith
-listing-few (b ∷ bs) l store room =
-    let a = step l.receiver store b in
-    let block = block_of (soi_of l) a.told a.store in
-    by_cond (λ (p : Part). p.taken ≤ suc (length bs)) (leb 4200 room)
-    (λ t. omega (arith, listing-few bs (onward l 1 a.next a.told) a.store (room - length (lines block))))
-    (λ t. omega arith)
+listing-few (b ∷ bs) l store room = grind (arith, nat_tests, listing-few bs)
 
 listing-some : (piece : List ℕ) (l : Listing) (store : List ℕ) (room : ℕ) → 4200 ≤ room → 0 < length piece → 0 < (listing l store room piece).taken
 unfolding listing
@@ -374,70 +292,60 @@ listing-some (b ∷ bs) l store room h some = rw (le-leb 4200 room h) (omega ari
 listing-offset : (piece : List ℕ) (l : Listing) (store : List ℕ) (room : ℕ) → (listing l store room piece).next.offset ≡ l.offset + (listing l store room piece).taken
 unfolding listing
 listing-offset [] l store room = omega arith
-listing-offset (b ∷ bs) l store room =
-    let a = step l.receiver store b in
-    let block = block_of (soi_of l) a.told a.store in
-    by_cond (λ (p : Part). p.next.offset ≡ l.offset + p.taken) (leb 4200 room)
-    (λ t. omega (arith, listing-offset bs (onward l 1 a.next a.told) a.store (room - length (lines block))))
-    (λ t. omega arith)
-
-abbrev InsideOf : Left → Type 0
-InsideOf w = (n : ℕ) → w.outcome ≡ wrote n → n ≤ length w.out
-
-refused-inside : (k : ℕ) (out : List ℕ) → InsideOf (leaves (refused_by k) out)
-refused-inside k out n e = never (cc)
-
-text-inside : (t rest : List ℕ) → InsideOf (leaves (wrote (length t)) (t ++ rest))
-text-inside t rest n e = let k : n ≡ length t = cc in omega (arith, length-append t rest)
+listing-offset (b ∷ bs) l store room = grind (arith, nat_tests, listing-offset bs)
 
 module _ (l : Listing) (store piece out : List ℕ) where
-  p : Part
-  p = listing l store (length out) (take (left l) piece)
-
   pub list-few : (list l store piece out).taken ≤ length piece
-  unfolding list p
-  list-few =
-      by_cond (λ (a : Call). a.taken ≤ length piece) (ltb (length store) 4110) (λ t. omega arith)
-      (λ t. by_cond (λ (a : Call). a.taken ≤ length piece) (ltb (length out) 4200) (λ t. omega arith)
-      (λ t. by_cond (λ (a : Call). a.taken ≤ length piece) (beyond l.receiver) (λ t. omega arith)
-      (λ t. omega (arith, listing-few (take (left l) piece) l store (length out), length-take (left l) piece))))
+  list-few = rw (list-is l store piece out) (go (call_refusal l store out))
+    where
+      go : (r : Option Refusal) → (answered r l store piece out).taken ≤ length piece
+      go (Some r) = omega arith
+      go None = omega (arith, listing-few (take (left l) piece) l store (length out), length-take (left l) piece)
 
   -- the offset moves by what was taken
   pub list-offset : (list l store piece out).next.offset ≡ l.offset + (list l store piece out).taken
-  unfolding list p
-  list-offset =
-      by_cond (λ (a : Call). a.next.offset ≡ l.offset + a.taken) (ltb (length store) 4110) (λ t. omega arith)
-      (λ t. by_cond (λ (a : Call). a.next.offset ≡ l.offset + a.taken) (ltb (length out) 4200) (λ t. omega arith)
-      (λ t. by_cond (λ (a : Call). a.next.offset ≡ l.offset + a.taken) (beyond l.receiver) (λ t. omega arith)
-      (λ t. listing-offset (take (left l) piece) l store (length out))))
+  list-offset = rw (list-is l store piece out) (go (call_refusal l store out))
+    where
+      go : (r : Option Refusal) → (answered r l store piece out).next.offset ≡ l.offset + (answered r l store piece out).taken
+      go (Some r) = omega arith
+      go None = listing-offset (take (left l) piece) l store (length out)
 
   -- where a call is not refused, and a byte is there that may be read, it takes one at least: calls come to an end
   pub list-some : 4110 ≤ length store → 4200 ≤ length out → count_of l.receiver ≤ 4110 → 0 < left l → 0 < length piece → 0 < (list l store piece out).taken
-  unfolding list p
+  unfolding list
   list-some h k f more some =
       rw (le-ltb (length store) 4110 h, le-ltb (length out) 4200 k, within l.receiver f)
       (listing-some (take (left l) piece) l store (length out) k (omega (arith, length-take (left l) piece)))
 
-  list_inside : InsideOf (list l store piece out).left
-  unfolding list p
-  list_inside =
-      by_cond (λ (a : Call). InsideOf a.left) (ltb (length store) 4110) (λ t. refused-inside 32 out)
-      (λ t. by_cond (λ (a : Call). InsideOf a.left) (ltb (length out) 4200) (λ t. refused-inside 32 out)
-      (λ t. by_cond (λ (a : Call). InsideOf a.left) (beyond l.receiver) (λ t. refused-inside 35 out)
-      (λ t. text-inside (lines p.blocks) (drop (length (lines p.blocks)) out))))
+-- ---- what was written lies within the buffer
 
-  module _ (answer : Listed) (store' out' : List ℕ) (e : Lists l store piece out answer store' out') where
-    pub lists-few : answer.taken ≤ length piece
-    lists-few = subst (λ (a : Call). a.taken ≤ length piece) (sym e) list-few
+abbrev Within : Outcome → List ℕ → Type 0
+Within (wrote n) out = n ≤ length out
+Within (refused_by k) out = Unit {0}
 
-    pub lists-inside : Inside answer.written out'
-    lists-inside = subst (λ (a : Call). InsideOf a.left) (sym e) list_inside
+inside_by : (written : Result ℕ Refusal) (out : List ℕ) (w : Left) → leaves (written_paper written) out ≡ w → Within w.outcome w.out → Inside written out
+inside_by (Ok n) out w e h = subst (λ (x : Left). Within x.outcome x.out) (sym e) h
+inside_by (Err r) out w e h = tt
 
-pub closes-inside : (l : Listing) (out : List ℕ) (answer : Written) (out' : List ℕ) → Writes (closing l out) answer out' → Inside answer out'
+text-within : (t out : List ℕ) → length t ≤ length (t ++ drop (length t) out)
+text-within t out = omega (arith, length-append t (drop (length t) out))
+
+module _ (l : Listing) (store piece out : List ℕ) (answer : Listed) (store' out' : List ℕ) (e : Lists l store piece out answer store' out') where
+  pub lists-few : answer.taken ≤ length piece
+  lists-few = subst (λ (a : Call). a.taken ≤ length piece) (sym e) (list-few l store piece out)
+
+  pub lists-inside : Inside answer.written out'
+  lists-inside = inside_by answer.written out' (list l store piece out).left (ap (λ (a : Call). a.left) e) (rw (list-is l store piece out) (go (call_refusal l store out)))
+    where
+      go : (r : Option Refusal) → Within (answered r l store piece out).left.outcome (answered r l store piece out).left.out
+      go (Some r) = tt
+      go None = text-within (lines (listing l store (length out) (take (left l) piece)).blocks) out
+
+pub closes-inside : (l : Listing) (out : List ℕ) (answer : Result ℕ Refusal) (out' : List ℕ) → Writes (closing l out) answer out' → Inside answer out'
 unfolding writing
 closes-inside l out answer out' e =
     let t = totals l.frames l.refusals in
-    subst InsideOf (sym e)
-    (by_cond InsideOf (leb 38 (length out))
-    (λ s. by_cond InsideOf (leb (length t) (length out)) (λ u. text-inside t (drop (length t) out)) (λ u. refused-inside 32 out))
-    (λ s. refused-inside 32 out))
+    inside_by answer out' (closing l out) e
+    (by_cond (λ (w : Left). Within w.outcome w.out) (leb 38 (length out))
+    (λ s. by_cond (λ (w : Left). Within w.outcome w.out) (leb (length t) (length out)) (λ u. text-within t out) (λ u. tt))
+    (λ s. tt))

@@ -5,7 +5,7 @@ use mathlib.Core.List.{Memᴰ as Among}
 use native.Mathlib.Decide.{dec_lt}
 use lib.ListN.{length-replicate, get_or-append}
 use lib.Seq.{take-length, slice, length-slice, get_or-append_seam, append_snoc}
-use Rattle.buffer.proofs.Lists.{by_cond, never}
+use Rattle.buffer.proofs.Lists.{by_cond}
 use Rattle.hex_chars.proofs.Laws.{said, Hexy}
 use Rattle.frame.specs.declared.Header.{Header}
 use Rattle.frame.specs.Frame.{SOI}
@@ -109,7 +109,7 @@ since-by other Waiting store b p e o = tt
 since-by soi (Open n) store b p e o = (p, [], ap (λ (x : ℕ). p ++ x ∷ []) (kind-soi b e), λ k h. absurd (omega arith))
 since-by cr (Open n) store b p e o = tt
 since-by other (Open n) store b p e o =
-    by_cond (λ (a : After). OpenSince a.next (p ++ b ∷ [])) (ltb n 4110) (λ t. since-more p b (λ s. never (cc (e, is-soi b s))) o) (λ t. tt)
+    by_cond (λ (a : After). OpenSince a.next (p ++ b ∷ [])) (ltb n 4110) (λ t. since-more p b (λ s. cc (e, is-soi b s)) o) (λ t. tt)
 
 since-after : (s : List ℕ) (r : Receiver) (store p : List ℕ) → Fits r store → OpenSince r p → OpenSince (after r store s).next (p ++ s)
 unfolding after
@@ -123,9 +123,9 @@ since-after (b ∷ s) r store p f o =
 -- only an open receiver refuses
 refuses-open : (k : Kind) (r : Receiver) (store : List ℕ) (b n : ℕ) (p : List ℕ) → (step_by k r store b).told ≡ refused n → OpenSince r p → Since p
 unfolding step_by
-refuses-open soi Waiting store b n p e o = never (cc)
-refuses-open cr Waiting store b n p e o = never (cc)
-refuses-open other Waiting store b n p e o = never (cc)
+refuses-open soi Waiting store b n p e o = cc
+refuses-open cr Waiting store b n p e o = cc
+refuses-open other Waiting store b n p e o = cc
 refuses-open k (Open m) store b n p e o = o
 
 since-opened : (s : List ℕ) (k : ℕ) → k < length s → Since (take k s) → Opened s (last_from 0 0 (take k s)) k

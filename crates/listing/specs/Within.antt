@@ -1,10 +1,11 @@
 -- Nobody has to believe these: they are words of the contracts of private functions, by which the proofs go from one to the next.
-use Rattle.std.specs.Prelude.{◌≡◌, ℕ, ◌+◌, ◌-◌, ◌≤◌, List, length, take, drop}
-use Rattle.buffer.specs.declared.Written.{Written}
+use Rattle.std.specs.Prelude.{◌≡◌, ℕ, ◌+◌, ◌-◌, ◌≤◌, List, length, take, drop, Result, IfOk, Option, Some, None, if◌then◌else◌, ◌||◌, nat_lt}
+use Rattle.refusal.specs.declared.Refusal.{Refusal}
+use Rattle.refusal.specs.declared.Refusal.TheVariants.{BufferTooShort, ReceiverBeyondStore}
 use Rattle.buffer.specs.Put.{Put}
-use Rattle.buffer.specs.Writing.{wrote, paper}
 use Rattle.frame.specs.Frame.{info_at}
 use Rattle.frame.specs.Judge.{Told, nothing, frame, refused, refused_at}
+use Rattle.receiver.specs.Step.{beyond}
 use Rattle.receiver.specs.Run.{Run}
 use Rattle.texts.specs.Block.{block_of, six_lines, frame_lines, lines}
 use Rattle.listing.specs.declared.Listing.{Listing}
@@ -12,8 +13,8 @@ use Rattle.listing.specs.declared.Part.{Part as PartOf}
 use Rattle.listing.specs.Piece.{onward, Part}
 
 -- what a writer says that it wrote stands within its buffer
-abbrev pub Inside : Written → List ℕ → Type 0
-Inside written out = (n : ℕ) → paper written ≡ wrote n → n ≤ length out
+abbrev pub Inside : Result ℕ Refusal → List ℕ → Type 0
+Inside written out = IfOk written (λ n. n ≤ length out)
 
 -- what one run of the receiver gives: its event's block, whose SOI and characters stand before the byte of the event
 abbrev pub turn : Listing → Run → Part
@@ -40,3 +41,9 @@ Stands (refused_at number place) store = Unit {0}
 pub record Puts (p : Part) (out : List ℕ) (at : ℕ) (answer : PartOf) (store' out' : List ℕ) : Type 0 where
   pub part : record { next = answer.next; store = store'; taken = answer.taken; blocks = p.blocks } ≡ p
   pub put : Put out at (lines p.blocks) out' answer.end
+
+-- what a call is refused with, if at all
+unfoldable pub call_refusal : Listing → List ℕ → List ℕ → Option Refusal
+call_refusal l store out =
+    if nat_lt (length store) 4110 || nat_lt (length out) 4200 then Some BufferTooShort
+    else (if beyond l.receiver then Some ReceiverBeyondStore else None)

@@ -1,17 +1,10 @@
 -- Writing again what was accepted: a reply that was read with 00H and flag 00H, answered again over the table then, has the same bytes. Per kind the codec's `back`; the records then hold what was read.
-use mathlib.Core.Path.{◌≡◌, refl, sym, ap, ◌∙◌}
-use mathlib.Core.Bool.{Bool, true, false, cond, not, ◌&&◌}
-use mathlib.Core.List.{List, [], ◌∷◌, ◌++◌}
-use Prim.Native.Nat.{ℕ, suc, ◌*◌, ◌<◌}
-use native.Mathlib.Omega.{arith}
-use lib.ListN.{length}
-use lib.Dec.{T, eqb}
-use borrow.Author.Tests.{eqb-true, ltb-true}
-use Rattle.buffer.proofs.Lists.{never}
+use Rattle.std.proofs.Common.{◌≡◌, Some, Result, Ok, refl, sym, ap, ◌∙◌, Bool, true, false, cond, not, ◌&&◌, List, [], ◌∷◌, ◌++◌, ℕ, suc, ◌*◌, ◌<◌, arith, length, T, eqb, eqb-true, ltb-true}
 use Rattle.hex_chars.specs.Hex.{Bytes, unhexes}
 use Rattle.hex_chars.proofs.Laws.{unhexes-hexes}
 use Rattle.frame.specs.Frame.{SOI, CR, chars, encode, info_at, Encodes}
 use Rattle.frame.specs.Judge.{header}
+use Rattle.frame.specs.declared.Fault.{Fault}
 use Rattle.frame.proofs.Round.{info-at}
 use Rattle.codec.specs.Codec.{byte}
 use Rattle.codec.specs.Whole.{Told, told, refuse, told_value, refuse_told, Whole, ended, mapped, mapped_inv}
@@ -36,12 +29,10 @@ use Rattle.command.specs.declared.Kind.TheVariants.{Analog, AnalogGroup, Alarm, 
 use Rattle.command.specs.Command.{kind_of, form_of, terms_of}
 use Rattle.command.specs.Heard.{Words, words}
 use Rattle.standin.specs.Says.{Code}
-use Rattle.standin.specs.declared.Answered.TheVariants.{Reply}
 use Rattle.standin.specs.declared.Replied.{Replied}
 use Rattle.standin.specs.Answer.{info_by, kind_asked, info_for, reply_header, written, answer, Answers}
 use Rattle.reply.specs.declared.gate.Question.{Question}
-use Rattle.reply.specs.declared.Outcome.{Outcome}
-use Rattle.reply.specs.declared.Outcome.TheVariants.{Read}
+use Rattle.reply.specs.declared.Reply.{Reply}
 use Rattle.reply.specs.declared.Reading.{Reading}
 use Rattle.reply.specs.Gate.{Gated, passed, refused as gate_refused, refused_at as gate_refused_at, is_return_code, asks, gate, frame_gate}
 use Rattle.reply.specs.Read.{Data, Left, leaves, read, refused, refused_at, paper, took, for_all, given, unless, read_reply, Reads}
@@ -153,15 +144,15 @@ module _ (ms : List Module) (adr : ℕ) (there : place_of adr ms < length ms) (i
 read-inv : (kept : Bool) (gated : Gated) (code ver ver' flag : ℕ) (maker : List ℕ) (ms ns : List Module) (zero-code : Bool) → eqb code 0 ≡ zero-code → (t : Told Data)
     → leaves (read ver 0 flag) maker ns ≡ cond kept (unless gated ms (cond zero-code (given ver' ms t) (leaves (read ver' code 0) no_maker ms))) (leaves (refused 31) no_maker ms)
     → (gated ≡ passed) × (code ≡ 0) × (ver' ≡ ver) × (t ≡ told (flag, (maker, ns)))
-read-inv false gated code ver ver' flag maker ms ns zero-code z t e = let o : read ver 0 flag ≡ refused 31 = ap (λ (l : Left). l.outcome) e in never (cc)
-read-inv true (gate_refused k) code ver ver' flag maker ms ns zero-code z t e = let o : read ver 0 flag ≡ refused k = ap (λ (l : Left). l.outcome) e in never (cc)
-read-inv true (gate_refused_at k p) code ver ver' flag maker ms ns zero-code z t e = let o : read ver 0 flag ≡ refused_at k p = ap (λ (l : Left). l.outcome) e in never (cc)
+read-inv false gated code ver ver' flag maker ms ns zero-code z t e = let o : read ver 0 flag ≡ refused 31 = ap (λ (l : Left). l.outcome) e in cc
+read-inv true (gate_refused k) code ver ver' flag maker ms ns zero-code z t e = let o : read ver 0 flag ≡ refused k = ap (λ (l : Left). l.outcome) e in cc
+read-inv true (gate_refused_at k p) code ver ver' flag maker ms ns zero-code z t e = let o : read ver 0 flag ≡ refused_at k p = ap (λ (l : Left). l.outcome) e in cc
 read-inv true passed code ver ver' flag maker ms ns false z t e =
     let o : read ver 0 flag ≡ read ver' code 0 = ap (λ (l : Left). l.outcome) e in
     let c : code ≡ 0 = cc in
     let same : eqb 0 0 ≡ false = ap (λ (x : ℕ). eqb x 0) (sym c) ∙ z in
-    never (cc)
-read-inv true passed code ver ver' flag maker ms ns true z (refuse j) e = let o : read ver 0 flag ≡ refused j = ap (λ (l : Left). l.outcome) e in never (cc)
+    cc
+read-inv true passed code ver ver' flag maker ms ns true z (refuse j) e = let o : read ver 0 flag ≡ refused j = ap (λ (l : Left). l.outcome) e in cc
 read-inv true passed code ver ver' flag maker ms ns true z (told x) e =
     let o : read ver 0 flag ≡ read ver' 0 x.0 = ap (λ (l : Left). l.outcome) e in
     let v : ver' ≡ ver = cc in
@@ -172,12 +163,12 @@ read-inv true passed code ver ver' flag maker ms ns true z (told x) e =
 gate-inv : (asked there adr cid1 known beside : Bool) → cond (not asked) (gate_refused 34) (cond (not there) (gate_refused 23) (cond (not adr) (gate_refused 11) (cond (not cid1) (gate_refused 12) (cond (not known) (gate_refused 13) (cond beside (gate_refused 14) passed))))) ≡ passed
     → (there ≡ true) × (adr ≡ true) × (cid1 ≡ true)
 gate-inv true true true true known beside e = (refl, refl, refl)
-gate-inv true true true false known beside e = never (cc)
-gate-inv true true false cid1 known beside e = never (cc)
-gate-inv true false adr cid1 known beside e = never (cc)
-gate-inv false there adr cid1 known beside e = never (cc)
+gate-inv true true true false known beside e = cc
+gate-inv true true false cid1 known beside e = cc
+gate-inv true false adr cid1 known beside e = cc
+gate-inv false there adr cid1 known beside e = cc
 
-module _ (t : Table) (q : Question) (c : List ℕ) (reading : Reading) (reads : Reads (read_reply (keeps t) (members t) q c) t reading) (ver : ℕ) (was_read : reading.outcome ≡ Read ver 0 0) where
+module _ (t : Table) (q : Question) (c : List ℕ) (reading : Reading) (reads : Reads (read_reply (keeps t) (members t) q c) t reading) (ver : ℕ) (was_read : reading.outcome ≡ Ok (record { ver = ver; code = 0; flag = 0 })) where
   -- the frame that was read
   record Came : Type 0 where
     pub info : List ℕ
@@ -192,7 +183,7 @@ module _ (t : Table) (q : Question) (c : List ℕ) (reading : Reading) (reads : 
       let ms = members t in
       let w = words c in
       let left : leaves (read ver 0 0) reading.maker (members reading.table) ≡ read_reply (keeps t) ms q c =
-      ap (λ (o : Outcome). leaves (paper o) reading.maker (members reading.table)) (sym was_read) ∙ reads.is in
+      ap (λ (o : Result Reply Fault). leaves (paper o) reading.maker (members reading.table)) (sym was_read) ∙ reads.is in
       let r = read-inv (keeps t) (gate ms q w) w.header.cid2 ver w.header.ver 0 reading.maker ms (members reading.table) _ refl _ left in
       let f = gate-passes c w refl ms q r.0 in
       let h = header c in
@@ -224,7 +215,7 @@ module _ (t : Table) (q : Question) (c : List ℕ) (reading : Reading) (reads : 
       (λ i. chars (head i) (info i)) ∙ sym f.encodes.is
 
   -- the answer is the reply that was read
-  pub read-is-answered : (out out' : List ℕ) (r : Replied) (n : ℕ) → Answers (answer (keeps reading.table) reading.table.count st (members reading.table) s out) r out' → r.answered ≡ Reply n
+  pub read-is-answered : (out out' : List ℕ) (r : Replied) (n : ℕ) → Answers (answer (keeps reading.table) reading.table.count st (members reading.table) s out) r out' → r.answered ≡ Ok (Some n)
       → let text = SOI ∷ (c ++ CR ∷ []) in (n ≡ length text) × (out' ≡ written text out)
   unfolding encode
   read-is-answered out out' r n answers replied =
@@ -237,7 +228,7 @@ module _ (t : Table) (q : Question) (c : List ℕ) (reading : Reading) (reads : 
 
 -- the question itself, asked again, is such a stretch, where its member is on and no link fault is in its way
 pub asked-again : (t : Table) (q : Question) (c : List ℕ) (reading : Reading) → Reads (read_reply (keeps t) (members t) q c) t reading → keeps t ≡ true → asks q ≡ true
-    → (st : Station) → reading.outcome ≡ Read st.ver 0 0 → (form_of q.cid2 q.command ≡ Maker → st.maker ≡ reading.maker) → AskedBytes st.ver q
+    → (st : Station) → reading.outcome ≡ Ok (record { ver = st.ver; code = 0; flag = 0 }) → (form_of q.cid2 q.command ≡ Maker → st.maker ≡ reading.maker) → AskedBytes st.ver q
     → let ns = members reading.table in is_on (member_at q.adr ns) ≡ true → ((terms_of (kind_of q.cid2)).has_command ≡ true → fault_for q.command ns q.adr ≡ false) → Again q reading st (asking st.ver q)
 asked-again t q c reading reads kept asked st was_read same_maker bytes on none =
     record {

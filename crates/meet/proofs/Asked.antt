@@ -1,13 +1,7 @@
 -- A question that the reply reader takes, sent to a member that is on, asks what the reader then reads; with the table's VER and no link fault in its way it is answered with 00H. The frame is read back, then down the column with each test known.
-use mathlib.Core.Path.{◌≡◌, refl, sym, ap, ◌∙◌}
-use mathlib.Core.Bool.{Bool, true, false, cond, not, ◌&&◌, ◌||◌, and-false}
-use mathlib.Core.List.{List, [], ◌∷◌}
-use Prim.Native.Nat.{ℕ, ◌*◌, ◌≤◌, ◌<◌}
-use native.Mathlib.Omega.{arith}
-use lib.ListN.{length}
-use lib.Dec.{eqb}
-use borrow.Author.Tests.{eq-eqb, eqb-true}
-use Rattle.buffer.proofs.Lists.{never, by_cond}
+use Rattle.std.proofs.Common.{◌≡◌, refl, sym, ap, ◌∙◌, Bool, true, false, cond, not, ◌&&◌, ◌||◌, List, [], ◌∷◌, ℕ, ◌*◌, ◌≤◌, ◌<◌, arith, length, eqb, eq-eqb, eqb-true}
+use Rattle.std.proofs.Math.Bool.{and-false}
+use Rattle.buffer.proofs.Lists.{by_cond}
 use Rattle.hex_chars.specs.Hex.{byte_at, hexes, Bytes}
 use Rattle.hex_chars.proofs.Laws.{byte_pair}
 use Rattle.frame.specs.declared.Header.{Header}
@@ -55,8 +49,8 @@ first-info h b info s = byte_pair b s
 not-grouped : (x y : Bool) (rest : Kind) → (terms_of (cond x Analog (cond y Alarm rest))).has_command ≡ false
     → cond x AnalogGroup (cond y AlarmGroup (cond x Analog (cond y Alarm rest))) ≡ cond x Analog (cond y Alarm rest)
 unfolding terms_of
-not-grouped true y rest e = never (cc)
-not-grouped false true rest e = never (cc)
+not-grouped true y rest e = cc
+not-grouped false true rest e = cc
 not-grouped false false rest e = refl
 
 plain_form : (cid2 command : ℕ) → (terms_of (kind_of cid2)).has_command ≡ false → form_of cid2 command ≡ kind_of cid2
@@ -70,9 +64,9 @@ column-end : (has-command group own grouped fault : Bool) → (not has-command |
 column-end false group own grouped fault e n f = refl
 column-end true true true grouped fault e n f = absurd (n refl refl)
 column-end true true false true fault e n f = rw (f refl)
-column-end true true false false fault e n f = never (cc)
+column-end true true false false fault e n f = cc
 column-end true false true grouped fault e n f = rw (f refl)
-column-end true false false grouped fault e n f = never (cc)
+column-end true false false grouped fault e n f = cc
 
 module _ (ver : ℕ) (q : Question) (bytes : AskedBytes ver q) where
   question-encodes : Encodes (question_header ver q) (question_info q) (asking ver q)
@@ -113,7 +107,7 @@ module _ (ver : ℕ) (q : Question) (bytes : AskedBytes ver q) where
         let e : q.adr ≡ 0xFF = sym (eqb-true x q.adr o) ∙ eqb-true x 0xFF g in
         let a : is_address 0xFF ≡ true = ap is_address (sym e) ∙ ap is_address (sym (member-adr q.adr ms on)) ∙ (member-fine q.adr ms on kept).address in
         let z : false ≡ true = a in
-        never (cc)
+        cc
 
     -- Command, where there is one, is what the reader would take
     fits : (not (terms_of (kind_of q.cid2)).has_command || (eqb q.command q.adr || (eqb q.command 0xFF && ((terms_of (kind_of q.cid2)).has_group && is_master q.adr)))) ≡ true

@@ -1,11 +1,5 @@
 -- The codes that the stand-in says are bytes, and of the reply reader's set: down the column, a line after the other.
-use mathlib.Core.Path.{◌≡◌, refl, subst}
-use mathlib.Core.Bool.{Bool, true, false, cond, not, ◌&&◌, ◌||◌}
-use mathlib.Core.List.{List}
-use Prim.Native.Nat.{ℕ, ◌<◌}
-use native.Mathlib.Omega.{arith}
-use lib.Dec.{eqb}
-use Rattle.buffer.proofs.Lists.{never}
+use Rattle.std.proofs.Common.{◌≡◌, refl, subst, Bool, true, false, cond, not, ◌&&◌, ◌||◌, List, ℕ, ◌<◌, arith, eqb}
 use Rattle.record.specs.declared.Module.{Module}
 use Rattle.table.specs.declared.Station.{Station}
 use Rattle.table.specs.Table.{is_on, has_fault, is_master, member_at, any_fault}
@@ -22,7 +16,7 @@ line true k rest code f g e = let z : k ≡ code = cc in subst Known z f
 line false k rest code f g e = g e
 
 hush : (test : Bool) (rest : Speech) (code : ℕ) → (rest ≡ Code code → Known code) → cond test Silent rest ≡ Code code → Known code
-hush true rest code g e = never (cc)
+hush true rest code g e = cc
 hush false rest code g e = g e
 
 pub said-known : (st : Station) (ms : List Module) (w : Words) (code : ℕ) → decide st ms w ≡ Code code → Known code
@@ -46,4 +40,4 @@ said-known st ms w code =
     (line (group && not (t.has_group && is_master adr)) 0x06 _ code (refl, omega arith)
     (line (not group && not (eqb w.command adr)) 0x90 _ code (refl, omega arith)
     (line ((group && any_fault ms) || (not group && has_fault m)) 0x91 _ code (refl, omega arith)
-    (line true 0x00 Silent code (refl, omega arith) (λ e. never (cc)))))))))))))))
+    (line true 0x00 Silent code (refl, omega arith) (λ e. cc))))))))))))))

@@ -1,14 +1,7 @@
 -- Each command's data can be encoded, are bytes, and are read back: per kind the codec's laws, whose `ok` is what the table's rule says.
-use mathlib.Core.Path.{◌≡◌, refl, sym, ap, ◌∙◌, subst}
-use mathlib.Core.Bool.{Bool, true, false, cond}
-use mathlib.Core.List.{List, [], ◌∷◌}
-use Prim.Native.Nat.{ℕ, zero, suc, ◌+◌, ◌≤◌, ◌<◌}
-use native.Mathlib.Omega.{arith}
-use lib.ListN.{length}
-use lib.Dec.{T, ltb, lt→ltb}
-use mir.Facts.{yes_and}
-use borrow.Author.Tests.{eq-eqb, lt-ltb}
-use Rattle.buffer.proofs.Lists.{never, by_cond}
+use Rattle.std.proofs.Common.{◌≡◌, refl, sym, ap, ◌∙◌, subst, Bool, true, false, cond, List, [], ◌∷◌, ℕ, zero, suc, ◌+◌, ◌≤◌, ◌<◌, arith, length, T, ltb, lt→ltb, eq-eqb, lt-ltb}
+use Rattle.std.proofs.Math.Facts.{yes_and}
+use Rattle.buffer.proofs.Lists.{by_cond}
 use Rattle.hex_chars.specs.Hex.{Bytes}
 use Rattle.codec.specs.Codec.{Codec, byte}
 use Rattle.codec.specs.Both.{◌then◌}
@@ -158,4 +151,4 @@ module _ (st : Station) (bytes : OfBytes st) (ms : List Module) (keeps : rule ms
     data-read Serial s a = rw ((serial_info adr).there (adr, (member_at adr ms).serial) serial-ok)
     data-read TurnOff s a = refl
     data-read Version s a = rw ((version_info adr).there (adr, (member_at adr ms).version) version-ok)
-    data-read Unserved s a = never (cc)
+    data-read Unserved s a = cc

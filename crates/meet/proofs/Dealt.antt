@@ -1,13 +1,6 @@
 -- Which member gets which record of a group: member by member, one that is on takes the first value that is left, one that is off takes none. So one's own values read back leave every record as it was.
-use mathlib.Core.Path.{◌≡◌, refl}
-use mathlib.Core.Bool.{Bool, true, false}
-use mathlib.Core.List.{List, [], ◌∷◌}
-use Prim.Native.Nat.{ℕ, zero, suc, ◌+◌, ◌<◌}
-use native.Mathlib.Nat.{zero-add}
-use native.Mathlib.Numerals.{one-add}
-use native.Mathlib.Omega.{arith}
-use lib.ListN.{length, take, get_or}
-use lib.Seq.{set-get_or}
+use Rattle.std.proofs.Common.{◌≡◌, refl, Bool, true, false, List, [], ◌∷◌, ℕ, zero, suc, ◌+◌, ◌<◌, zero-add, one-add, arith, length, take, get_or}
+use Rattle.std.proofs.Math.Seq.{set-get_or}
 use Rattle.buffer.proofs.Lists.{by_cond}
 use Rattle.record.specs.declared.Module.{Module}
 use Rattle.record.specs.declared.Analog.{Analog as AnalogRecord}

@@ -1,11 +1,5 @@
 -- The rule holds again after every change: one law over lists whose records keep their ADRs and stay fine, cited for a record replaced, for values dealt out, and for each kind of change.
-use mathlib.Core.Path.{◌≡◌, refl, ap}
-use mathlib.Core.Bool.{true}
-use mathlib.Core.List.{List, [], ◌∷◌}
-use Prim.Native.Nat.{ℕ, zero, suc, ◌/◌}
-use native.Mathlib.Omega.{arith}
-use lib.ListN.{length, get_or, set}
-use borrow.Author.Tests.{le-leb}
+use Rattle.std.proofs.Common.{◌≡◌, refl, ap, true, List, [], ◌∷◌, ℕ, zero, suc, ◌/◌, arith, length, get_or, set, le-leb}
 use Rattle.buffer.proofs.Lists.{by_cond}
 use Rattle.codec.specs.Codec.{Codec}
 use Rattle.record.specs.declared.Module.{Module}

@@ -1,15 +1,9 @@
 -- Whatever the stand-in answers, the reply reader reads without a refusal: the frame is read back, the gate is open, and each kind of data is read back.
-use mathlib.Core.Path.{◌≡◌, refl, sym, ap, ◌∙◌, subst}
-use mathlib.Core.Bool.{Bool, true, false, cond, not, ◌&&◌, ◌||◌}
-use mathlib.Core.List.{List, []}
-use Prim.Native.Nat.{ℕ, zero, suc, ◌*◌, ◌<◌}
-use native.Mathlib.Omega.{arith}
-use lib.ListN.{length, drop}
-use lib.Dec.{ltb, eqb}
-use borrow.Author.Tests.{lt-ltb, le-ltb, eq-eqb, ne_eqb}
-use Rattle.buffer.proofs.Lists.{never, by_cond}
+use Rattle.std.proofs.Common.{◌≡◌, Option, Some, Result, Ok, refl, sym, ap, ◌∙◌, subst, Bool, true, false, cond, not, ◌&&◌, ◌||◌, List, [], ℕ, zero, suc, ◌*◌, ◌<◌, arith, length, drop, ltb, eqb, lt-ltb, le-ltb, eq-eqb, ne_eqb}
+use Rattle.buffer.proofs.Lists.{by_cond}
 use Rattle.hex_chars.specs.Hex.{byte_at, unhexes}
 use Rattle.hex_chars.proofs.Laws.{unhexes-hexes}
+use Rattle.refusal.specs.declared.Refusal.{Refusal}
 use Rattle.frame.specs.declared.Header.{Header}
 use Rattle.frame.specs.Frame.{chars, encode, info_at, Encodes, between}
 use Rattle.frame.specs.Judge.{frame}
@@ -26,8 +20,6 @@ use Rattle.table.proofs.changes.Ones.{table-one}
 use Rattle.command.specs.declared.Kind.{Kind}
 use Rattle.command.specs.Command.{kind_of, form_of, terms_of}
 use Rattle.command.specs.Heard.{Words, words, number_of}
-use Rattle.standin.specs.declared.Answered.{Answered}
-use Rattle.standin.specs.declared.Answered.TheVariants.{Reply}
 use Rattle.standin.specs.declared.Replied.{Replied}
 use Rattle.standin.specs.Says.{Speech, Silent, Code, decide, unheard}
 use Rattle.standin.specs.Answer as Answer
@@ -66,7 +58,7 @@ past true k rest n e = let z : k ≡ 0 = cc in absurd (n z)
 past false k rest n e = (refl, e)
 
 hushed : (test : Bool) (rest : Speech) → cond test Silent rest ≡ Code 0 → rest ≡ Code 0
-hushed true rest e = never (cc)
+hushed true rest e = cc
 hushed false rest e = e
 
 ends : (has group own grouped fault : Bool)
@@ -81,7 +73,7 @@ ends true false false grouped fault e = let z : ◌≡◌ {A = ℕ} 0x90 0 = cc 
 
 yes-served : (b : Bool) → not b ≡ false → b ≡ true
 yes-served true e = refl
-yes-served false e = never (cc)
+yes-served false e = cc
 
 pub said-asks : (st : Station) (ms : List Module) (w : Words) → decide st ms w ≡ Code 0 → asks (own_question w) ≡ true
 unfolding decide asks
@@ -167,9 +159,9 @@ spoken : (none : ℕ) (st : Station) (ms : List Module) (w : Words) (short kept 
     × ((code : ℕ) × (said ≡ Code code)
     × (let text = encode (reply_header st w code) (info_for st ms w code) in (n ≡ length text) × (out' ≡ written text out)))
 unfolding says
-spoken none st ms w true kept said out out' n off e = let o : Answer.reply n ≡ Answer.refused 32 = ap (λ (l : Answer.Left). l.outcome) e in never (cc)
-spoken none st ms w false false said out out' n off e = let o : Answer.reply n ≡ Answer.refused 31 = ap (λ (l : Answer.Left). l.outcome) e in never (cc)
-spoken none st ms w false true Silent out out' n off e = let o : Answer.reply n ≡ Answer.silence = ap (λ (l : Answer.Left). l.outcome) e in never (cc)
+spoken none st ms w true kept said out out' n off e = let o : Answer.reply n ≡ Answer.refused 32 = ap (λ (l : Answer.Left). l.outcome) e in cc
+spoken none st ms w false false said out out' n off e = let o : Answer.reply n ≡ Answer.refused 31 = ap (λ (l : Answer.Left). l.outcome) e in cc
+spoken none st ms w false true Silent out out' n off e = let o : Answer.reply n ≡ Answer.silence = ap (λ (l : Answer.Left). l.outcome) e in cc
 spoken none st ms w false true (Code code) out out' n off e =
     let text = encode (reply_header st w code) (info_for st ms w code) in
     let o : Answer.reply n ≡ Answer.reply (length text) = ap (λ (l : Answer.Left). l.outcome) e in
@@ -177,17 +169,17 @@ spoken none st ms w false true (Code code) out out' n off e =
     (refl, (code, refl, (count, ap (λ (l : Answer.Left). l.out) e)))
 
 module _ (st : Station) (t : Table) (s out out' : List ℕ) (r : Replied) (answered : Answers (answer (keeps t) t.count st (members t) s out) r out')
-    (n : ℕ) (replied : r.answered ≡ Reply n) where
+    (n : ℕ) (replied : r.answered ≡ Ok (Some n)) where
   pub replied-with : (keeps t ≡ true)
       × ((code : ℕ) × (decide st (members t) (words s) ≡ Code code)
       × (let text = encode (reply_header st (words s) code) (info_for st (members t) (words s) code) in (n ≡ length text) × (out' ≡ written text out)))
   unfolding answer
   replied-with =
       spoken t.count st (members t) (words s) (ltb (length out) 4112) (keeps t) (decide st (members t) (words s)) out out' n r.off
-      (ap (λ (a : Answered). Answer.leaves (Answer.paper a) r.off out') (sym replied) ∙ answered)
+      (ap (λ (a : Result (Option ℕ) Refusal). Answer.leaves (Answer.paper a) r.off out') (sym replied) ∙ answered)
 
 module _ (st : Station) (bytes : OfBytes st) (t : Table) (s out out' : List ℕ) (r : Replied) (answered : Answers (answer (keeps t) t.count st (members t) s out) r out')
-    (n : ℕ) (replied : r.answered ≡ Reply n) where
+    (n : ℕ) (replied : r.answered ≡ Ok (Some n)) where
   pub answer-is-read : IsRead st t s (between n out')
   unfolding has_member
   answer-is-read =

@@ -1,15 +1,9 @@
 -- What the stand-in's table holds after its answer: with an accepted 95H one module is off, after any other answer all is as it was. List work on the place that is set.
-use mathlib.Core.Path.{◌≡◌, refl, sym, ap, ◌∙◌}
-use mathlib.Core.Logic.{⊎_elim}
-use mathlib.Core.Bool.{Bool, true, false, cond, not, and-false}
-use mathlib.Core.List.{List, [], ◌∷◌}
-use Prim.Native.Nat.{ℕ, ◌≤◌, ◌<◌}
-use native.Mathlib.Nat.{le_refl}
-use lib.ListN.{length, get_or, set, length-set, get_or-eq_default}
-use lib.Seq.{set_out, get_or-set_same, get_or-set_other}
-use lib.Dec.{ltb, eqb}
-use borrow.Author.Tests.{eq-eqb, ne_eqb}
-use Rattle.codec.proofs.Places.{le-or-lt}
+use Rattle.std.proofs.Common.{◌≡◌, refl, sym, ap, ◌∙◌, ⊎_elim, Bool, true, false, cond, not, List, [], ◌∷◌, ℕ, le_refl, length, get_or, set, length-set, get_or-set_same, get_or-set_other, ltb, eqb, eq-eqb, ne_eqb}
+use Rattle.std.proofs.Math.Bool.{and-false}
+use Rattle.std.proofs.Math.ListN.{get_or-eq_default}
+use Rattle.std.proofs.Math.Seq.{set_out}
+use Rattle.std.proofs.lemmas.Bool.Decides.{leb_tells}
 use Rattle.record.specs.declared.Module.{Module}
 use Rattle.table.specs.declared.Station.{Station}
 use Rattle.table.specs.Table.{blank, is_on, place_of, has_member, member_at}
@@ -52,11 +46,11 @@ module _ (adr : ℕ) (ms : List Module) where
       let x = switched_off (get_or ms i blank) in
       ap (λ (k : ℕ). get_or (set ms i x) k blank) (changed-place adr ms (set ms i x) (set-changed switched_off off-safe ms i blank))
       ∙ ⊎_elim
-      (λ (h : length ms ≤ i).
-      ap (λ (l : List Module). get_or l i blank) (set_out ms i x h)
-      ∙ get_or-eq_default ms blank h ∙ ap switched_off (sym (get_or-eq_default ms blank h)))
-      (λ (h : i < length ms). get_or-set_same ms i x blank h)
-      (le-or-lt (length ms) i)
+      (λ h.
+      ap (λ (l : List Module). get_or l i blank) (set_out ms i x h.1)
+      ∙ get_or-eq_default ms blank h.1 ∙ ap switched_off (sym (get_or-eq_default ms blank h.1)))
+      (λ h. get_or-set_same ms i x blank h.1)
+      (leb_tells (length ms) i)
 
   off-silent : (st : Station) (w : Words) → w.header.adr ≡ adr → decide st (off_at (place_of adr ms) ms) w ≡ Silent
   unfolding decide

@@ -1,12 +1,6 @@
 -- Every reading leaves a table that keeps its rule: what a codec read can be encoded, so each kind of change is safe.
-use mathlib.Core.Path.{◌≡◌, refl, ap, ◌∙◌}
-use mathlib.Core.Bool.{Bool, true}
-use mathlib.Core.List.{List, [], ◌∷◌}
-use Prim.Native.Nat.{ℕ, zero, suc, ◌<◌}
-use lib.ListN.{length}
-use lib.Dec.{T, eqb}
-use mir.Facts.{and_yes}
-use borrow.Author.Tests.{le-leb}
+use Rattle.std.proofs.Common.{◌≡◌, refl, ap, ◌∙◌, Bool, true, List, [], ◌∷◌, ℕ, zero, suc, ◌<◌, length, T, eqb, le-leb}
+use Rattle.std.proofs.Math.Facts.{and_yes}
 use Rattle.buffer.proofs.Lists.{by_cond}
 use Rattle.hex_chars.specs.Hex.{Bytes, unhexes}
 use Rattle.hex_chars.proofs.Laws.{bytes-unhexes}

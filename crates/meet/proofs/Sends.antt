@@ -1,16 +1,9 @@
 -- Each return code is sent: for each there is a stretch that the master of a group of one answers with it, computed; what is said is then sent whatever the buffer.
-use mathlib.Core.Path.{◌≡◌, refl, sym, ap, ◌∙◌}
-use mathlib.Core.Bool.{Bool, true, false, ◌||◌}
-use mathlib.Core.List.{List, [], ◌∷◌}
-use Prim.Native.Nat.{ℕ, zero, suc, ◌≤◌}
-use native.Mathlib.Omega.{arith}
-use lib.ListN.{length, set, replicate}
-use lib.Dec.{leb, eqb}
-use borrow.Author.Tests.{le-ltb, leb-true, eqb-true}
-use Rattle.buffer.proofs.Lists.{never}
+use Rattle.std.proofs.Common.{◌≡◌, Option, Some, None, Result, Ok, Err, refl, sym, ap, ◌∙◌, Bool, true, false, ◌||◌, List, [], ◌∷◌, ℕ, zero, suc, ◌≤◌, arith, length, set, replicate, leb, eqb, le-ltb, leb-true, eqb-true}
 use Rattle.hex_chars.specs.Hex.{digit_of, is_hex, all_hex, char_of, byte_of, byte_at, word_at, hexes}
-use Rattle.frame.specs.Frame.{lchksum, length_of, sum, chksum, packed, seal, chars, encode, between}
+use Rattle.frame.specs.Frame.{lchksum, length_of, chksum, packed, seal, chars, encode, between}
 use Rattle.frame.specs.Judge.{need, header, lenid, judge}
+use Rattle.refusal.specs.declared.Refusal.{Refusal}
 use Rattle.record.specs.declared.Module.{Module}
 use Rattle.record.specs.Address.{is_address}
 use Rattle.record.specs.Analog.{analog, measured}
@@ -25,8 +18,6 @@ use Rattle.table.specs.Table.{blank, members, place_of, member_at, is_master, an
 use Rattle.table.specs.Rule.{encodable, fine, rising, rule, keeps}
 use Rattle.command.specs.Command.{kind_of, terms_of}
 use Rattle.command.specs.Heard.{Words, number_of, words}
-use Rattle.standin.specs.declared.Answered.{Answered}
-use Rattle.standin.specs.declared.Answered.TheVariants.{Silence, Reply, Refused}
 use Rattle.standin.specs.Says.{Code, decide}
 use Rattle.standin.specs.Answer as Answer
 use Rattle.standin.specs.Answer.{info_for, reply_header, says, answer}
@@ -39,10 +30,10 @@ use Rattle.meet.proofs.Vectors.{master, station, of-bytes}
 
 -- ---- what is said is sent
 
-reply-of : (a : Answered) (n : ℕ) → Answer.paper a ≡ Answer.reply n → a ≡ Reply n
-reply-of Silence n e = never (cc)
-reply-of (Reply m) n e = cc
-reply-of (Refused r) n e = never (cc)
+reply-of : (a : Result (Option ℕ) Refusal) (n : ℕ) → Answer.paper a ≡ Answer.reply n → a ≡ Ok (Some n)
+reply-of (Ok None) n e = cc
+reply-of (Ok (Some m)) n e = cc
+reply-of (Err r) n e = cc
 
 module _ (st : Station) (bytes : OfBytes st) (t : Table) (kept : keeps t ≡ true) (s : List ℕ) (code : ℕ) (said : decide st (members t) (words s) ≡ Code code) where
   pub said-is-sent : Sends st code
@@ -105,7 +96,7 @@ all_said :
     × answers_with master 0x06 (to-master 0x21 0x92 0xFF)
     × answers_with master 0x90 (to-master 0x21 0x42 3)
     × answers_with faulty 0x91 well-asked
-unfolding decide members words judge need header lenid all_hex is_hex digit_of byte_of byte_at word_at lchksum sum chksum number_of member_at place_of kind_of terms_of is_master any_fault asking chars seal packed hexes length_of char_of
+unfolding decide members words judge need header lenid all_hex is_hex digit_of byte_of byte_at word_at lchksum chksum number_of member_at place_of kind_of terms_of is_master any_fault asking chars seal packed hexes length_of char_of
 all_said = (refl, refl, refl, refl, refl, refl, refl, refl, refl)
 
 -- 47H, which has no Command: a link fault does not hinder it, another VER is 01H, and a Command in its INFO 05H
@@ -113,7 +104,7 @@ pub parameters-said :
     answers_with faulty 0x00 (to-master 0x21 0x47 0)
     × answers_with master 0x01 (to-master 0x20 0x47 0)
     × answers_with master 0x05 (chars (record { ver = 0x21; adr = 2; cid1 = 0x46; cid2 = 0x47 }) (2 ∷ []))
-unfolding decide members words judge need header lenid all_hex is_hex digit_of byte_of byte_at word_at lchksum sum chksum number_of member_at place_of kind_of terms_of is_master any_fault asking chars seal packed hexes length_of char_of
+unfolding decide members words judge need header lenid all_hex is_hex digit_of byte_of byte_at word_at lchksum chksum number_of member_at place_of kind_of terms_of is_master any_fault asking chars seal packed hexes length_of char_of
 parameters-said = (refl, refl, refl)
 
 -- ---- each code
@@ -139,4 +130,4 @@ each-code-is-sent code known = by-test (leb code 0x06) refl (eqb code 0x90) refl
     by-test true l strange x fault f k = low-sent code (leb-true code 0x06 l)
     by-test false l true x fault f k = rw (eqb-true code 0x90 x) (sent-by master sound-keeps 0x90 _ all_said.7)
     by-test false l false x true f k = rw (eqb-true code 0x91 f) (sent-by faulty faulty-keeps 0x91 _ all_said.8)
-    by-test false l false x false f k = never (cc)
+    by-test false l false x false f k = cc

@@ -1,12 +1,5 @@
 -- Whatever the stand-in sends is a whole encoding, so the receiver hands it out: header and data are bytes, and the data are short.
-use mathlib.Core.Path.{◌≡◌, refl}
-use mathlib.Core.Bool.{true}
-use mathlib.Core.List.{List, [], ◌∷◌, ◌++◌, append_assoc}
-use Prim.Native.Nat.{ℕ, suc, ◌+◌, ◌-◌, ◌*◌, ◌≤◌, ◌<◌}
-use native.Mathlib.Omega.{arith}
-use lib.ListN.{length}
-use lib.Seq.{take_at}
-use lib.Dec.{ltb, eqb}
+use Rattle.std.proofs.Common.{◌≡◌, refl, true, List, [], ◌∷◌, ◌++◌, append_assoc, ℕ, suc, ◌+◌, ◌-◌, ◌*◌, ◌≤◌, ◌<◌, arith, length, take_at, ltb, eqb}
 use Rattle.buffer.proofs.Lists.{by_cond}
 use Rattle.hex_chars.specs.Hex.{Bytes, byte_at}
 use Rattle.hex_chars.proofs.Laws.{byte_small}
@@ -51,7 +44,7 @@ module _ (st : Station) (bytes : OfBytes st) (ms : List Module) (keeps : rule ms
         body = by_cond Bytes (eqb code 0) (λ t. data-bytes st bytes ms keeps adr small on (kind_asked w)) (λ t. tt);
         short =
             by_cond (λ (l : List ℕ). length l ≤ 2047) (eqb code 0)
-            (λ t. omega (arith, info-length st ms adr keeps on small (kind_asked w) bytes.count))
+            (λ t. omega (arith, info-length ms keeps adr on st bytes.count (kind_asked w)))
             (λ t. omega arith);
         is = refl;
       }

@@ -1,13 +1,7 @@
 -- The paper's line 4FH, and a 95H, over a closed table, computed: the theorems' hypotheses can be met.
-use mathlib.Core.Path.{◌≡◌, refl}
-use mathlib.Core.Bool.{true}
-use mathlib.Core.List.{List, [], ◌∷◌}
-use Prim.Native.Nat.{ℕ, zero, suc, ◌<◌}
-use native.Mathlib.Omega.{arith}
-use lib.ListN.{replicate}
-use lib.IntN.{pos, negsuc}
+use Rattle.std.proofs.Common.{◌≡◌, refl, true, List, [], ◌∷◌, ℕ, zero, suc, ◌<◌, arith, replicate, pos, negsuc}
 use Rattle.hex_chars.specs.Hex.{digit_of, is_hex, all_hex, char_of, byte_of, byte_at, word_at, hexes, Bytes}
-use Rattle.frame.specs.Frame.{lchksum, length_of, sum, chksum, packed, seal, chars, encode}
+use Rattle.frame.specs.Frame.{lchksum, length_of, chksum, packed, seal, chars, encode}
 use Rattle.frame.specs.Judge.{need, header, lenid, judge}
 use Rattle.record.specs.declared.Module.{Module}
 use Rattle.record.specs.Address.{is_address}
@@ -93,13 +87,13 @@ pub of-bytes : OfBytes station
 of-bytes = record { ver = omega arith; maker = bytes-all 32 0x50 (omega arith); count = refl }
 
 pub says-00 : decide station (master ∷ []) (words question) ≡ Code 0
-unfolding decide words judge need header lenid all_hex is_hex digit_of byte_of byte_at word_at lchksum sum chksum number_of member_at place_of kind_of terms_of is_master any_fault
+unfolding decide words judge need header lenid all_hex is_hex digit_of byte_of byte_at word_at lchksum chksum number_of member_at place_of kind_of terms_of is_master any_fault
 says-00 = refl
 
 -- `~210246000000FDB1` and CR, 18 bytes
 pub the-reply : encode (reply_header station (words question) 0) (info_for station (master ∷ []) (words question) 0)
     ≡ 126 ∷ 50 ∷ 49 ∷ 48 ∷ 50 ∷ 52 ∷ 54 ∷ 48 ∷ 48 ∷ 48 ∷ 48 ∷ 48 ∷ 48 ∷ 70 ∷ 68 ∷ 66 ∷ 49 ∷ 13 ∷ []
-unfolding encode chars seal packed hexes length_of lchksum sum chksum char_of info_for info_by form_of kind_of words judge need header lenid all_hex is_hex digit_of byte_of byte_at word_at
+unfolding encode chars seal packed hexes length_of lchksum chksum char_of info_for info_by form_of kind_of words judge need header lenid all_hex is_hex digit_of byte_of byte_at word_at
 the-reply = refl
 
 -- and the reader takes that question over the same table
@@ -118,14 +112,14 @@ abbrev pub turn-off : List ℕ
 turn-off = 50 ∷ 49 ∷ 48 ∷ 50 ∷ 52 ∷ 54 ∷ 57 ∷ 53 ∷ 69 ∷ 48 ∷ 48 ∷ 50 ∷ 48 ∷ 50 ∷ 70 ∷ 68 ∷ 50 ∷ 65 ∷ []
 
 pub off-says-00 : decide station (master ∷ []) (words turn-off) ≡ Code 0
-unfolding decide words judge need header lenid all_hex is_hex digit_of byte_of byte_at word_at lchksum sum chksum number_of member_at place_of kind_of terms_of is_master any_fault
+unfolding decide words judge need header lenid all_hex is_hex digit_of byte_of byte_at word_at lchksum chksum number_of member_at place_of kind_of terms_of is_master any_fault
 off-says-00 = refl
 
 -- that one module is off, and all else as it was
 pub off-after : off_at (off_for 1 (master ∷ []) (words turn-off) 0) (master ∷ []) ≡ switched_off master ∷ []
-unfolding off_at off_for words judge need header lenid all_hex is_hex digit_of byte_of byte_at word_at lchksum sum chksum place_of
+unfolding off_at off_for words judge need header lenid all_hex is_hex digit_of byte_of byte_at word_at lchksum chksum place_of
 off-after = refl
 
 pub then-silent : decide station (switched_off master ∷ []) (words turn-off) ≡ Silent
-unfolding decide words judge need header lenid all_hex is_hex digit_of byte_of byte_at word_at lchksum sum chksum number_of member_at place_of
+unfolding decide words judge need header lenid all_hex is_hex digit_of byte_of byte_at word_at lchksum chksum number_of member_at place_of
 then-silent = refl

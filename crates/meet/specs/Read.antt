@@ -1,5 +1,5 @@
 -- No reply that nobody could send: whatever the stand-in answers is a whole encoding, and the reply reader reads it without a refusal; what was read is answered again as the same bytes.
-use Rattle.std.specs.Prelude.{◌≡◌, ◌≢◌, true, List, ℕ, ◌≤◌, length}
+use Rattle.std.specs.Prelude.{◌≡◌, ◌≢◌, true, List, ℕ, ◌≤◌, length, Some, Ok}
 use Rattle.frame.specs.Frame.{Encodes, between}
 use Rattle.record.specs.Nothing.{no_maker}
 use Rattle.table.specs.declared.Station.{Station}
@@ -9,12 +9,10 @@ use Rattle.table.specs.Rule.{keeps}
 use Rattle.command.specs.declared.Kind.TheVariants.{Maker}
 use Rattle.command.specs.Command.{form_of}
 use Rattle.command.specs.Heard.{Words, words}
-use Rattle.standin.specs.declared.Answered.TheVariants.{Reply}
 use Rattle.standin.specs.declared.Replied.{Replied}
 use Rattle.standin.specs.Says.{Code, decide}
 use Rattle.standin.specs.Answer.{kind_asked, info_for, reply_header, answer, Answers}
 use Rattle.reply.specs.declared.gate.Question.{Question}
-use Rattle.reply.specs.declared.Outcome.TheVariants.{Read}
 use Rattle.reply.specs.declared.Reading.{Reading}
 use Rattle.reply.specs.Gate.{asks}
 use Rattle.reply.specs.Read.{Left, leaves, read, paper, read_reply, Reads}
@@ -53,7 +51,7 @@ pub record IsRead (st : Station) (t : Table) (stretch chars : List ℕ) : Type 0
 
 -- writing again: a reply was read with 00H and flag 00H, and a stand-in with that VER, and for 51H those 32 bytes, says 00H over the table then to a stretch that asks the same
 pub record Again (q : Question) (reading : Reading) (st : Station) (stretch : List ℕ) : Type 0 where
-  pub was_read : reading.outcome ≡ Read st.ver 0 0
+  pub was_read : reading.outcome ≡ Ok (record { ver = st.ver; code = 0; flag = 0 })
   pub same_maker : form_of q.cid2 q.command ≡ Maker → st.maker ≡ reading.maker
   pub same_adr : (words stretch).header.adr ≡ q.adr
   pub same_form : kind_asked (words stretch) ≡ form_of q.cid2 q.command
@@ -64,4 +62,4 @@ pub record Sends (st : Station) (code : ℕ) : Type 0 where
   pub table : Table
   pub stretch : List ℕ
   pub replies : (out out' : List ℕ) (r : Replied) → 4112 ≤ length out → Answers (answer (keeps table) table.count st (members table) stretch out) r out'
-      → (n : ℕ) × (r.answered ≡ Reply n) × ((words (between n out')).header.cid2 ≡ code)
+      → (n : ℕ) × (r.answered ≡ Ok (Some n)) × ((words (between n out')).header.cid2 ≡ code)

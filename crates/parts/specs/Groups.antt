@@ -1,21 +1,29 @@
--- The records of a group: how many, and twelve places for them, zeros in those beyond.
-use Rattle.std.specs.Prelude.{List, ℕ, ◌<◌, length, replicate, T}
-use Rattle.codec.specs.Codec.{Codec}
+-- The records of a group: how many, and places for them, `none` in those beyond.
+use Rattle.std.specs.Prelude.{List, ℕ, length, take, Result, Ok, Err}
+use Rattle.refusal.specs.Number.{number}
+use Rattle.refusal.specs.declared.Refusal.{Refusal}
 use Rattle.codec.specs.Counted.{pad_to}
-use Rattle.codec.specs.Whole.{Whole}
-use Rattle.codec.specs.Many.{many}
+use Rattle.codec.specs.Whole.{Told, told, refuse}
 use Rattle.record.specs.Infos.{Front}
 
--- records until INFO ends, twelve at most
-unfoldable pub records : {A : Type 0} (c : Codec A) → ((a : A) → T (c.ok a) → 0 < length (c.put a)) → Whole (List A)
-records c some = many c some 12
-
-abbrev pub places : {A : Type 0} → A → List A → ℕ × List A
-places none l = (length l, pad_to none 12 l)
-
-abbrev pub no_places : {A : Type 0} → A → ℕ × List A
-no_places none = (0, replicate 12 none)
+abbrev pub places : {A : Type 0} → A → ℕ → List A → ℕ × List A
+places none most l = (length l, pad_to none most l)
 
 -- after flag and FFH
-abbrev pub grouped : {A : Type 0} → A → Front × List A → ℕ × (ℕ × List A)
-grouped none x = (x.0.0, places none x.1)
+abbrev pub grouped : {A : Type 0} → A → ℕ → Front × List A → ℕ × (ℕ × List A)
+grouped none most x = (x.0.0, places none most x.1)
+
+-- what a reader of a group answered, with what its places hold: the flag, how many records and the places, or the refusal's number
+abbrev pub handed : {A : Type 0} → Result (ℕ × ℕ) Refusal → List A → Told (ℕ × (ℕ × List A))
+handed (Ok x) held = told (x.0, (x.1, held))
+handed (Err r) held = refuse (number r)
+
+-- what a reader of records answered, with those that it put at the front of its places: the records, or the refusal's number
+abbrev pub listed : {A : Type 0} → Result ℕ Refusal → List A → Told (List A)
+listed (Ok n) held = told (take n held)
+listed (Err r) held = refuse (number r)
+
+-- after flag and FFH
+abbrev pub led : {A : Type 0} → Result (ℕ × ℕ) Refusal → List A → Told (Front × List A)
+led (Ok x) held = told ((x.0, 0xFF), take x.1 held)
+led (Err r) held = refuse (number r)

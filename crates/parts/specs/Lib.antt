@@ -1,4 +1,5 @@
-pub mod Readings
-pub mod Took
 pub mod Groups
+pub mod Took
 pub mod Records
+pub mod Lists
+pub mod Laws

@@ -1,7 +1,10 @@
-// What the readers and the writers of every record share: how a reading went, the front and the end of an INFO, words put into a buffer.
+// What the readers and the writers of every record share: a format, rows and counted lists of it, and whole INFOs, read and written.
 
 #![tactic(auto)]
 
-pub mod front;
-pub mod reading;
-pub mod writing;
+pub mod bytes;
+pub mod format;
+pub mod group;
+pub mod list;
+pub mod read;
+pub mod write;

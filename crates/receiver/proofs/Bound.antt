@@ -1,12 +1,9 @@
 -- 936 can't be raised for the tilde: a whole encoding with LENID 938 of which one character becomes a tilde, and the tail is a frame.
-use mathlib.Core.Path.{◌≡◌, refl}
-use mathlib.Core.List.{List, [], ◌∷◌, ◌++◌}
-use Prim.Native.Nat.{ℕ, ◌≤◌}
-use lib.ListN.{length, set, replicate}
+use Rattle.std.proofs.Common.{◌≡◌, refl, List, [], ◌∷◌, ◌++◌, ℕ, ◌≤◌, length, set, replicate}
 use Rattle.buffer.specs.Text.{ascii}
 use Rattle.hex_chars.specs.Hex.{is_hex, digit_of, all_hex, byte_of, byte_at, word_at}
 use Rattle.frame.specs.declared.Header.{Header}
-use Rattle.frame.specs.Frame.{SOI, CR, lchksum, sum, chksum}
+use Rattle.frame.specs.Frame.{SOI, CR, lchksum, chksum}
 use Rattle.frame.specs.Judge.{frame, need, header, lenid, judge}
 use Rattle.frame.proofs.Judging.{judge-accepts}
 use Rattle.receiver.specs.Stream.{told_at}
@@ -30,11 +27,11 @@ tail-header = record { ver = 0x20; adr = 0x02; cid1 = 0x46; cid2 = 0x4F }
 
 -- it is a whole encoding
 pub long-accepted : judge long ≡ frame long-header 938
-unfolding long first tail long-header is_hex digit_of all_hex byte_of byte_at word_at lchksum sum chksum need header lenid judge
+unfolding long first tail long-header is_hex digit_of all_hex byte_of byte_at word_at lchksum chksum need header lenid judge
 long-accepted = refl
 
 tail-accepted : judge tail ≡ frame tail-header 0
-unfolding tail tail-header is_hex digit_of all_hex byte_of byte_at word_at lchksum sum chksum need header lenid judge
+unfolding tail tail-header is_hex digit_of all_hex byte_of byte_at word_at lchksum chksum need header lenid judge
 tail-accepted = refl
 
 -- and with character 937 changed to a tilde, a frame is told at its CR

@@ -1,17 +1,11 @@
 -- What is told of a damaged stretch: over characters an open receiver says nothing, so only its tilde, a character too many and its CR are heard.
-use mathlib.Core.Path.{◌≡◌, refl, sym, ap, ◌∙◌, subst}
-use mathlib.Core.Logic.{◌≢◌}
-use mathlib.Core.Bool.{Bool, true, false, cond}
-use mathlib.Core.List.{List, [], ◌∷◌, ◌++◌, append-nil, append_assoc, Memᴰ as Among}
-use mathlib.Core.Option.{some}
-use Prim.Native.Nat.{ℕ, suc, ◌+◌, ◌-◌, ◌%◌, ◌≤◌, ◌<◌}
-use native.Mathlib.Decide.{ℕ_discrete}
-use native.Mathlib.Omega.{arith}
-use lib.ListN.{length, get_or, take, drop, set, length-append, take-append-drop}
-use lib.Seq.{set_split, append_snoc, length-take-le, take-take, slice, length-slice, split_at, drop-append-le, drop-length}
-use lib.Dec.{T, ltb, eqb, ltb→lt, nltb→le}
-use borrow.Author.Tests.{lt-ltb, le-ltb, le-leb, lt-leb, eq-eqb, ne_eqb}
-use Rattle.buffer.proofs.Lists.{by_cond, never}
+use Rattle.std.proofs.Common.{◌≡◌, refl, sym, ap, ◌∙◌, subst, ◌≢◌, Bool, true, false, cond, List, [], ◌∷◌, ◌++◌, append-nil, append_assoc, ℕ, suc, ◌+◌, ◌-◌, ◌%◌, ◌≤◌, ◌<◌, arith, length, get_or, take, drop, set, length-append, take-append-drop, length-take-le, take-take, T, ltb, eqb, ltb→lt, nltb→le, lt-ltb, le-ltb, le-leb, eq-eqb, ne_eqb}
+use mathlib.Core.List.{Memᴰ as Among}
+use Rattle.std.specs.Prelude.{Some}
+use Rattle.std.proofs.Math.Decide.{ℕ_discrete}
+use Rattle.std.proofs.Math.Seq.{set_split, append_snoc, slice, length-slice, split_at, drop-append-le, drop-length}
+use Rattle.std.proofs.lemmas.Bool.{lt-leb}
+use Rattle.buffer.proofs.Lists.{by_cond}
 use Rattle.hex_chars.specs.Hex.{is_hex}
 use Rattle.hex_chars.proofs.Laws.{said, hex-said, Hexy, hexy-cut, hexy-join}
 use Rattle.frame.specs.declared.Header.{Header}
@@ -36,11 +30,11 @@ use Rattle.receiver.proofs.Pieces.{along-join, Took, any-cutting, took-call}
 
 -- ---- an open receiver
 
-hears-soi : (r : Receiver) (store c : List ℕ) → Fits r store → held r store ≡ some c → step r store SOI ≡ gives (Open 0) store (refused 2)
-hears-soi Waiting store c f e = never (cc)
+hears-soi : (r : Receiver) (store c : List ℕ) → Fits r store → held r store ≡ Some c → step r store SOI ≡ gives (Open 0) store (refused 2)
+hears-soi Waiting store c f e = cc
 hears-soi (Open n) store c f e = sym (row-again store SOI f.0 n f.1 refl)
 
-counts : (n : ℕ) (store c : List ℕ) → Fits (Open n) store → held (Open n) store ≡ some c → n ≡ length c
+counts : (n : ℕ) (store c : List ℕ) → Fits (Open n) store → held (Open n) store ≡ Some c → n ≡ length c
 counts n store c f e = let q : take n store ≡ c = cc in sym (length-take-le n store (omega (arith, f.0, f.1))) ∙ ap length q
 
 -- a character: nothing, and 1 where it is the 4,111th
@@ -48,16 +42,16 @@ module _ (b : ℕ) (h : kind b ≡ other) where
   hears : (r : Receiver) (store : List ℕ) → Fits r store → step r store b ≡ step_by other r store b
   hears r store f = step-within r store b f.0 f.1 ∙ ap (λ (k : Kind). step_by k r store b) h
 
-  hears-one : (r : Receiver) (store c : List ℕ) → Fits r store → held r store ≡ some c → length c < 4110 → (step r store b).told ≡ nothing
+  hears-one : (r : Receiver) (store c : List ℕ) → Fits r store → held r store ≡ Some c → length c < 4110 → (step r store b).told ≡ nothing
   unfolding step_by
-  hears-one Waiting store c f e l = never (cc)
+  hears-one Waiting store c f e l = cc
   hears-one (Open n) store c f e l =
       ap (λ (a : After). a.told) (hears (Open n) store f)
       ∙ by_cond (λ (a : After). a.told ≡ nothing) (ltb n 4110) (λ t. refl) (λ t. absurd (omega (arith, nltb→le n 4110 t, counts n store c f e)))
 
-  hears-more : (r : Receiver) (store c : List ℕ) → Fits r store → held r store ≡ some c → length c ≡ 4110 → step r store b ≡ gives Waiting store (refused 1)
+  hears-more : (r : Receiver) (store c : List ℕ) → Fits r store → held r store ≡ Some c → length c ≡ 4110 → step r store b ≡ gives Waiting store (refused 1)
   unfolding step_by
-  hears-more Waiting store c f e l = never (cc)
+  hears-more Waiting store c f e l = cc
   hears-more (Open n) store c f e l =
       hears (Open n) store f
       ∙ by_cond (λ (a : After). a ≡ gives Waiting store (refused 1)) (ltb n 4110) (λ t. absurd (omega (arith, ltb→lt n 4110 t, counts n store c f e))) (λ t. refl)
@@ -98,7 +92,7 @@ module _ (a b : ℕ) where
       λ i. late (suc n) z.told z.store (omega arith) i ++ along-late s (suc n) z.next z.store (omega arith) i
 
   -- over characters nothing
-  along-plain : (c d : List ℕ) (n : ℕ) (r : Receiver) (store : List ℕ) → Fits r store → held r store ≡ some d → Plain c → length d + length c ≤ 4110
+  along-plain : (c d : List ℕ) (n : ℕ) (r : Receiver) (store : List ℕ) → Fits r store → held r store ≡ Some d → Plain c → length d + length c ≤ 4110
       → along (inside a b) n r store c ≡ []
   unfolding along after
   along-plain [] d n r store f e h l = refl
@@ -140,7 +134,7 @@ module _ (a b : ℕ) where
     next : Receiver
     store : List ℕ
     fits : Fits next store
-    holding : held next store ≡ some c
+    holding : held next store ≡ Some c
     is : all ≡ told ++ along (inside a b) (suc n + length c) next store rest
 
   opened : (n : ℕ) (r : Receiver) (store : List ℕ) → Fits r store → (c rest : List ℕ) → Plain c → length c ≤ 4110
@@ -193,7 +187,7 @@ module _ (a b : ℕ) where
 
     -- the byte behind the characters tells something
     first-told : (pre c : List ℕ) (v : ℕ) (rest : List ℕ) (at : ℕ) → a ≡ suc (length pre) → suc (length pre) + length c ≡ at → at ≤ b → Plain c → length c ≤ 4110
-        → (t : Told) → ((r : Receiver) (store : List ℕ) → Fits r store → held r store ≡ some c → (step r store v).told ≡ t) → is_nothing t ≡ false
+        → (t : Told) → ((r : Receiver) (store : List ℕ) → Fits r store → held r store ≡ Some c → (step r store v).told ≡ t) → is_nothing t ≡ false
         → (es : List (ℕ × Told)) × (along (inside a b) 0 Waiting store (pre ++ SOI ∷ (c ++ v ∷ rest)) ≡ (at, t) ∷ es)
     first-told pre c v rest at p q o h l t tells s =
         let g = open_told pre c (v ∷ rest) p h l in
@@ -253,7 +247,7 @@ module _ (a b : ℕ) where
         let z = after Waiting store before in
         let f = after-fits before Waiting store (room, omega arith) in
         let g = opened (length before) z.next z.store f c (CR ∷ post) h l in
-        let opens : holds z ≡ some [] =
+        let opens : holds z ≡ Some [] =
         ap holds (after-join pre (SOI ∷ []) Waiting store) ∙ step-soi (after Waiting store pre).next (after Waiting store pre).store (after-fits pre Waiting store (room, omega arith)) in
         let again = hears-soi z.next z.store [] f opens in
         let heard = step-cr g.next g.store c g.fits g.holding in
@@ -484,7 +478,7 @@ module _ (caller : Caller)
 
       -- a character that became a byte v at which the others are refused
       at_once : (s : List ℕ) (i j : ℕ) (h : Header) (n : ℕ) (f : Stretch s i j h n) (k : ℕ) (l : i < k) (r : k < j) (b v : ℕ) → b ≡ v → (t : ℕ)
-          → ((o : Receiver) (store : List ℕ) → Fits o store → held o store ≡ some (slice (suc i) k s) → (step o store v).told ≡ refused t)
+          → ((o : Receiver) (store : List ℕ) → Fits o store → held o store ≡ Some (slice (suc i) k s) → (step o store v).told ≡ refused t)
           → First s i j k b
       at_once s i j h n f k l r b v e t tells =
           let c = slice (suc i) k s in

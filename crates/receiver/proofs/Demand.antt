@@ -1,13 +1,9 @@
 -- Demand 3: what calls hand out is what is told at each place, so the stretches; a damaged stretch shares no place with one that is handed out.
-use mathlib.Core.Path.{◌≡◌, refl, sym, ap, ◌∙◌, subst}
-use mathlib.Core.Logic.{◌⊎◌, inl, inr, ◌↔◌}
+use Rattle.std.proofs.Common.{◌≡◌, refl, sym, ap, ◌∙◌, subst, ◌⊎◌, inl, inr, ◌↔◌, List, [], ◌∷◌, ◌++◌, append-nil, ℕ, zero, suc, ◌+◌, ◌-◌, ◌≤◌, ◌<◌, arith, length, get_or, take, drop, set, length-take, take-suc, take-take, length-take-le, get_or-take}
 use mathlib.Core.List.Memᴰ
-use mathlib.Core.List.{List, [], ◌∷◌, ◌++◌, append-nil, Memᴰ}
-use Prim.Native.Nat.{ℕ, zero, suc, ◌+◌, ◌-◌, ◌≤◌, ◌<◌}
-use native.Mathlib.Decide.{dec_lt}
-use native.Mathlib.Omega.{arith}
-use lib.ListN.{length, get_or, take, drop, set, length-take}
-use lib.Seq.{take-suc, take-length, take-take, length-take-le, get_or-take}
+use mathlib.Core.List.{Memᴰ}
+use Rattle.std.proofs.Math.Decide.{dec_lt}
+use Rattle.std.proofs.Math.Seq.{take-length}
 use Rattle.frame.specs.declared.Header.{Header}
 use Rattle.frame.specs.Frame.{info_at, Frames}
 use Rattle.frame.specs.Judge.{Told, nothing, frame, refused, refused_at}

@@ -1,11 +1,6 @@
 -- Two neighbours exchanged in a stretch: it is a whole encoding again, so it is handed out, or none is among its characters.
-use mathlib.Core.Path.{◌≡◌, refl, sym, ap, ◌∙◌, subst}
-use mathlib.Core.Logic.{◌⊎◌, inl, inr, ◌≢◌}
-use mathlib.Core.List.{List, ◌∷◌, ◌++◌, append_assoc}
-use Prim.Native.Nat.{ℕ, suc, ◌+◌, ◌-◌, ◌≤◌, ◌<◌}
-use native.Mathlib.Omega.{arith}
-use lib.ListN.{length, get_or, take, drop, length-append}
-use lib.Seq.{slice, drop-cons, get_or-take, length-take-le, length-slice}
+use Rattle.std.proofs.Common.{◌≡◌, refl, sym, ap, ◌∙◌, subst, ◌⊎◌, inl, inr, ◌≢◌, List, ◌∷◌, ◌++◌, append_assoc, ℕ, suc, ◌+◌, ◌-◌, ◌≤◌, ◌<◌, arith, length, get_or, take, drop, length-append, drop-cons, get_or-take, length-take-le}
+use Rattle.std.proofs.Math.Seq.{slice, length-slice}
 use Rattle.hex_chars.proofs.Laws.{Hexy, hexy-cut, hexy-join}
 use Rattle.frame.specs.declared.Header.{Header}
 use Rattle.frame.specs.Frame.{SOI, CR, info_at, Whole, Frames}

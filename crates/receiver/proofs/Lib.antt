@@ -1,3 +1,5 @@
+pub mod Events
+pub mod Scans
 pub mod Rows
 pub mod Running
 pub mod Storing

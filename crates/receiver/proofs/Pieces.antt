@@ -1,20 +1,9 @@
 -- The contracts allow one answer only, and a call leaves and tells what stepping over the bytes it took does: so any cutting of a stream gives the same.
-use mathlib.Core.Path.{◌≡◌, refl, sym, ap, ◌∙◌, subst}
-use mathlib.Core.Bool.{Bool, true, false, cond}
-use mathlib.Core.List.{List, [], ◌∷◌, ◌++◌, append-nil, append_assoc}
-use Prim.Native.Nat.{ℕ, zero, suc, ◌+◌, ◌≤◌, ◌<◌}
-use native.Mathlib.Numerals.{add-one, one-add}
-use native.Mathlib.Nat.{add-zero}
-use native.Mathlib.Omega.{arith}
-use lib.ListN.{length, take, drop, length-drop, length-take}
-use lib.Seq.{take-take, take-add, length-take-le, drop-nil}
-use Rattle.refusal.specs.Number.{number}
-use Rattle.refusal.proofs.Numbers.{number-injective}
-use Rattle.buffer.proofs.Lists.{never, by_cond}
+use Rattle.std.proofs.Common.{◌≡◌, refl, sym, ap, ◌∙◌, subst, Bool, true, false, cond, List, [], ◌∷◌, ◌++◌, append-nil, append_assoc, ℕ, zero, suc, ◌+◌, ◌≤◌, ◌<◌, add-one, one-add, add-zero, arith, length, take, drop, length-drop, length-take, take-take, take-add, length-take-le}
+use Rattle.std.proofs.Math.Seq.{drop-nil}
+use Rattle.buffer.proofs.Lists.{by_cond}
 use Rattle.frame.specs.Judge.{Told, nothing, frame, refused, refused_at}
 use Rattle.receiver.specs.declared.Receiver.{Receiver}
-use Rattle.receiver.specs.declared.Event.{Event}
-use Rattle.receiver.specs.declared.Event.TheVariants.{Nothing, Frame, Refused, RefusedAt}
 use Rattle.receiver.specs.declared.Stepped.{Stepped}
 use Rattle.receiver.specs.declared.Ran.{Ran}
 use Rattle.receiver.specs.Step.{After, gives, step, paper, Steps}
@@ -22,31 +11,11 @@ use Rattle.receiver.specs.Run.{is_nothing, count_of, Run, later, stops, stepping
 use Rattle.receiver.specs.Pass.{Fits}
 use Rattle.receiver.specs.Stream.{after, along}
 use Rattle.receiver.specs.Calls.{Can, Offers, Caller, Calls, Offered, taken, told, Call, ran, stepped, asked, leaves, Keeps}
+use Rattle.receiver.proofs.Events.{paper-injective}
 use Rattle.receiver.proofs.Receive.{after-fits}
 use Rattle.receiver.proofs.Running.{run-within-is}
 
 -- ---- one answer for one input
-
-paper-injective : (a b : Event) → paper a ≡ paper b → a ≡ b
-paper-injective Nothing Nothing e = refl
-paper-injective Nothing (Frame h n) e = never (cc)
-paper-injective Nothing (Refused r) e = never (cc)
-paper-injective (Frame h n) Nothing e = never (cc)
-paper-injective (Frame h m) (Frame g n) e = cc
-paper-injective (Frame h m) (Refused r) e = never (cc)
-paper-injective (Refused q) Nothing e = never (cc)
-paper-injective (Refused q) (Frame g n) e = never (cc)
-paper-injective (Refused q) (Refused r) e = let n : number q ≡ number r = cc in ap Refused (number-injective q r n)
-paper-injective Nothing (RefusedAt r p) e = never (cc)
-paper-injective (Frame h m) (RefusedAt r p) e = never (cc)
-paper-injective (Refused q) (RefusedAt r p) e = never (cc)
-paper-injective (RefusedAt q p) Nothing e = never (cc)
-paper-injective (RefusedAt q p) (Frame g n) e = never (cc)
-paper-injective (RefusedAt q p) (Refused r) e = never (cc)
-paper-injective (RefusedAt q p) (RefusedAt r p') e =
-    let n : number q ≡ number r = cc in
-    let same : p ≡ p' = cc in
-    λ i. RefusedAt (number-injective q r n i) (same i)
 
 pub steps-one : (r : Receiver) (store : List ℕ) (b : ℕ) (s t : Stepped) (store' store'' : List ℕ) → Steps r store b s store' → Steps r store b t store''
     → (s ≡ t) × (store' ≡ store'')
@@ -119,9 +88,9 @@ module _ {A : Type 0} (note : ℕ → Told → List ℕ → List A) (mute : (n :
       where
         silent : (t : Told) → is_nothing t ≡ true → (n : ℕ) (store : List ℕ) → note n t store ≡ []
         silent nothing q n store = mute n store
-        silent (frame h m) q n store = never (cc)
-        silent (refused k) q n store = never (cc)
-        silent (refused_at k p) q n store = never (cc)
+        silent (frame h m) q n store = cc
+        silent (refused k) q n store = cc
+        silent (refused_at k p) q n store = cc
     took-turn a e g false q = took_one b bs r store (count_of r) a e
 
   took-run : (piece : List ℕ) (r : Receiver) (store : List ℕ) → Took r store piece (stepping r store piece)

@@ -1,15 +1,9 @@
 -- A refusal with a place is told at a CR, of the characters that are held, and these are what came since the last SOI, none of them SOI or CR.
-use mathlib.Core.Path.{◌≡◌, refl, sym, ap, ◌∙◌, subst}
-use mathlib.Core.Logic.{inl, inr, ◌↔◌}
-use mathlib.Core.Bool.{Bool, true, false}
-use mathlib.Core.List.{List, [], ◌∷◌, ◌++◌, append-nil, head-eq_of_cons-eq}
-use mathlib.Core.Option.{Option, none, some}
-use Prim.Native.Nat.{ℕ, zero, suc, ◌+◌, ◌-◌, ◌≤◌, ◌<◌}
-use native.Mathlib.Omega.{arith}
-use lib.ListN.{length, get_or, take, drop, length-append}
-use lib.Seq.{slice, length-slice, split_at, take-suc-set, length-take-le, get_or-take, get_or-drop, get_or-append_seam, get_or-append-add, drop-append-add}
-use lib.Dec.{ltb, ltb→lt}
-use Rattle.buffer.proofs.Lists.{by_cond, never}
+use Rattle.std.proofs.Common.{◌≡◌, refl, sym, ap, ◌∙◌, subst, inl, inr, ◌↔◌, Bool, true, false, List, [], ◌∷◌, ◌++◌, append-nil, Option, ℕ, zero, suc, ◌+◌, ◌-◌, ◌≤◌, ◌<◌, arith, length, get_or, take, drop, length-append, take-suc-set, length-take-le, get_or-take, get_or-drop, get_or-append-add, ltb, ltb→lt}
+use mathlib.Core.List.{head-eq_of_cons-eq}
+use Rattle.std.specs.Prelude.{Some, None}
+use Rattle.std.proofs.Math.Seq.{slice, length-slice, split_at, get_or-append_seam, drop-append-add}
+use Rattle.buffer.proofs.Lists.{by_cond}
 use Rattle.frame.specs.Frame.{SOI, CR}
 use Rattle.frame.specs.Judge.{Told, refused_at, judge}
 use Rattle.frame.proofs.Places.{placed}
@@ -31,8 +25,8 @@ use Rattle.receiver.proofs.Damage.{silent, there, along-late, from-fresh, told_i
 -- ---- the characters that are held are neither SOI nor CR
 
 abbrev PlainHeld : Option (List ℕ) → Type 0
-PlainHeld none = Unit {0}
-PlainHeld (some c) = Plain c
+PlainHeld None = Unit {0}
+PlainHeld (Some c) = Plain c
 
 plain_by : (k : Kind) (r : Receiver) (store : List ℕ) (b : ℕ) → kind b ≡ k → Fits r store → PlainHeld (held r store) → PlainHeld (holds (step_by k r store b))
 unfolding step_by
@@ -67,15 +61,15 @@ plain_of (b ∷ c) h = (h 0 (omega arith), plain_of c (λ m l. h (suc m) (omega 
 
 -- only a CR, and where characters are held
 closes-bad : (k : Kind) (r : Receiver) (store : List ℕ) (b n p : ℕ) → kind b ≡ k → (step_by k r store b).told ≡ refused_at n p
-    → (b ≡ CR) × (c : List ℕ) × (held r store ≡ some c) × (judge c ≡ refused_at n p)
+    → (b ≡ CR) × (c : List ℕ) × (held r store ≡ Some c) × (judge c ≡ refused_at n p)
 unfolding step_by
-closes-bad soi Waiting store b n p q e = never (cc)
-closes-bad cr Waiting store b n p q e = never (cc)
-closes-bad other Waiting store b n p q e = never (cc)
-closes-bad soi (Open m) store b n p q e = never (cc)
+closes-bad soi Waiting store b n p q e = cc
+closes-bad cr Waiting store b n p q e = cc
+closes-bad other Waiting store b n p q e = cc
+closes-bad soi (Open m) store b n p q e = cc
 closes-bad cr (Open m) store b n p q e = (kind-cr b q, take m store, refl, e)
 closes-bad other (Open m) store b n p q e =
-    by_cond (λ (a : After). a.told ≡ refused_at n p → (b ≡ CR) × (c : List ℕ) × (held (Open m) store ≡ some c) × (judge c ≡ refused_at n p)) (ltb m 4110) (λ t g. never (cc)) (λ t g. never (cc)) e
+    by_cond (λ (a : After). a.told ≡ refused_at n p → (b ≡ CR) × (c : List ℕ) × (held (Open m) store ≡ Some c) × (judge c ≡ refused_at n p)) (ltb m 4110) (λ t g. cc) (λ t g. cc) e
 
 module _ (store s : List ℕ) (room : 4110 ≤ length store) (j k p : ℕ) (here : j < length s) where
   abbrev a : After
@@ -91,8 +85,8 @@ module _ (store s : List ℕ) (room : 4110 ≤ length store) (j k p : ℕ) (here
       let r = closes-bad (kind (get_or s j 0)) a.next a.store (get_or s j 0) k p refl (ap (λ (x : After). x.told) (sym (step-within a.next a.store (get_or s j 0) f.0 f.1)) ∙ e) in
       go r.0 r.1 (subst PlainHeld r.2 (plain-after (take j s) Waiting store (room, omega arith) tt)) r.3 (after_open (take j s) Waiting store r.1 (room, omega arith) r.2)
     where
-      go : get_or s j 0 ≡ CR → (c : List ℕ) → Plain c → judge c ≡ refused_at k p → Opened none (take j s) c → (i : ℕ) × BadStretch s i j k p
-      go ends c plain bad (inr (d, x, y)) = never (cc x)
+      go : get_or s j 0 ≡ CR → (c : List ℕ) → Plain c → judge c ≡ refused_at k p → Opened None (take j s) c → (i : ℕ) × BadStretch s i j k p
+      go ends c plain bad (inr (d, x, y)) = cc x
       go ends c plain bad (inl (q, e)) = (
         length q,
         record {
@@ -104,7 +98,7 @@ module _ (store s : List ℕ) (room : 4110 ≤ length store) (j k p : ℕ) (here
               let split : m ≡ length q + suc d = omega arith in
               let is : get_or s m 0 ≡ get_or c d 0 = at m r ∙ ap (λ (x : ℕ). get_or (q ++ SOI ∷ c) x 0) split ∙ get_or-append-add q (SOI ∷ c) (suc d) 0 in
               let of : kind (get_or s m 0) ≡ other = ap kind is ∙ plain_at c plain d (omega (arith, lengths)) in
-              (λ z. never (cc (is-soi (get_or s m 0) z, of)), λ z. never (cc (is-cr (get_or s m 0) z, of)));
+              (λ z. cc (is-soi (get_or s m 0) z, of), λ z. cc (is-cr (get_or s m 0) z, of));
           placed = (placed k p (slice (suc (length q)) j s)).0 (ap judge chars ∙ bad);
         },
       )
@@ -133,7 +127,7 @@ module _ (store s : List ℕ) (room : 4110 ≤ length store) (j k p : ℕ) (here
       (λ m h. let at : get_or c m 0 ≡ get_or s (suc i + m) 0 = get_or-drop (suc i) (take j s) m 0 ∙ get_or-take j s (suc i + m) 0 (omega (arith, size)) in
       let apart = b.between (suc i + m) (omega arith) (omega (arith, size)) in
       ap kind at ∙ is-other (get_or s (suc i + m) 0) apart.0 apart.1) in
-      let holding : holds a ≡ some c =
+      let holding : holds a ≡ Some c =
       ap (λ (x : List ℕ). holds (after Waiting store x)) (cut s i j b.order (omega arith) b.opens)
       ∙ ap holds (after-join (take i s) (SOI ∷ c) Waiting store)
       ∙ after-plain c [] o.next o.store (after-fits (SOI ∷ []) l.next l.store (fits (take i s))) (step-soi l.next l.store (fits (take i s))) plain (omega (arith, b.placed.few)) in
@@ -166,7 +160,7 @@ unfolding inside
 only_that j t u store loud = (to (is_nothing t) refl, λ e. ap (λ (x : Told). inside j j (suc j) x store) e ∙ there j j j u store loud (omega arith) (omega arith))
   where
     to : (quiet : Bool) → is_nothing t ≡ quiet → inside j j (suc j) t store ≡ (j, u) ∷ [] → t ≡ u
-    to true e q = let none : ◌≡◌ {A = List (ℕ × Told)} [] ((j, u) ∷ []) = rw e at q in never (cc)
+    to true e q = let none : ◌≡◌ {A = List (ℕ × Told)} [] ((j, u) ∷ []) = rw e at q in cc
     to false e q = ap (λ (x : ℕ × Told). x.1) (head-eq_of_cons-eq (sym (there j j j t store e (omega arith) (omega arith)) ∙ q))
 
 module _ (caller : Caller)

@@ -1,42 +1,25 @@
 -- The rows of the step's table, as the code meets them.
-use mathlib.Core.Path.{◌≡◌, refl, sym, ap, ◌∙◌}
-use mathlib.Core.Logic.{◌≢◌}
-use mathlib.Core.Bool.{true, false}
-use mathlib.Core.List.{List}
-use Prim.Native.Nat.{ℕ, ◌+◌, ◌≤◌, ◌<◌}
-use native.Mathlib.Numerals.{add-one}
-use native.Mathlib.Decide.{ℕ_discrete}
-use native.Mathlib.Omega.{arith}
-use lib.ListN.{length, take, set}
-use borrow.Author.Tests.{lt-ltb, le-ltb, ltb-false, eq-eqb, ne_eqb}
+use Rattle.std.proofs.Common.{◌≡◌, refl, ◌≢◌, false, List, ℕ, ◌+◌, ◌≤◌, arith, length, take, set, le-ltb, ltb-false}
 use Rattle.frame.specs.Frame.{SOI, CR}
 use Rattle.frame.specs.Judge.{Told, nothing, refused, judge}
 use Rattle.receiver.specs.declared.Receiver.{Receiver}
 use Rattle.receiver.specs.declared.Receiver.TheVariants.{Waiting, Open}
-use Rattle.receiver.specs.Step.{Kind, soi, cr, other, kind, gives, step_by, beyond, step}
+use Rattle.receiver.specs.Step.{soi, cr, other, kind, gives, step_by, beyond, step}
 use Rattle.receiver.specs.Run.{count_of}
 
 pub is-soi : (b : ℕ) → b ≡ SOI → kind b ≡ soi
 unfolding kind
-is-soi b e = simp (eq-eqb b SOI e)
+is-soi b e = grind arith
 
 pub is-cr : (b : ℕ) → b ≡ CR → kind b ≡ cr
 unfolding kind
-is-cr b e = simp (ne_eqb b SOI (λ f. omega arith), eq-eqb b CR e)
+is-cr b e = grind arith
 
 pub is-other : (b : ℕ) → b ≢ SOI → b ≢ CR → kind b ≡ other
 unfolding kind
-is-other b e f = simp (ne_eqb b SOI e, ne_eqb b CR f)
+is-other b e f = grind arith
 
 -- ---- the call refusals, and what is behind them
-
-pub step-short : (r : Receiver) (store : List ℕ) (b : ℕ) → length store < 4110 → gives r store (refused 32) ≡ step r store b
-unfolding step
-step-short r store b h = rw (lt-ltb (length store) 4110 h)
-
-pub step-beyond : (r : Receiver) (store : List ℕ) (b : ℕ) → 4110 ≤ length store → beyond r ≡ true → gives r store (refused 35) ≡ step r store b
-unfolding step
-step-beyond r store b h e = rw (le-ltb (length store) 4110 h, e)
 
 -- a count within the store is not beyond it
 pub within : (r : Receiver) → count_of r ≤ 4110 → beyond r ≡ false
@@ -51,40 +34,22 @@ pub step-within : (r : Receiver) (store : List ℕ) (b : ℕ) → 4110 ≤ lengt
 unfolding step
 step-within r store b h k = rw (le-ltb (length store) 4110 h, within r k)
 
--- ---- the rows
+-- ---- rows of the step's table
 
 module _ (store : List ℕ) (b : ℕ) (room : 4110 ≤ length store) where
-  row : (r : Receiver) (k : Kind) → count_of r ≤ 4110 → kind b ≡ k → step_by k r store b ≡ step r store b
-  row r k h e = ap (λ (x : Kind). step_by x r store b) (sym e) ∙ sym (step-within r store b room h)
-
-  pub row_opens : b ≡ SOI → gives (Open 0) store nothing ≡ step Waiting store b
-  unfolding step_by
-  row_opens e = row Waiting soi (omega arith) (is-soi b e)
-
   pub row-idle : b ≢ SOI → gives Waiting store nothing ≡ step Waiting store b
-  unfolding step_by
-  row-idle e =
-      elim (ℕ_discrete b CR) [
-        | yes g ↦ row Waiting cr (omega arith) (is-cr b g)
-        | no g ↦ row Waiting other (omega arith) (is-other b e g)
-      ]
+  unfolding step step_by kind
+  row-idle e = grind arith
 
   module _ (n : ℕ) (fits : n ≤ 4110) where
     pub row-again : b ≡ SOI → gives (Open 0) store (refused 2) ≡ step (Open n) store b
-    unfolding step_by
-    row-again e = row (Open n) soi fits (is-soi b e)
+    unfolding step step_by kind
+    row-again e = grind arith
 
     pub row-judged : (t : Told) → t ≡ judge (take n store) → b ≡ CR → gives Waiting store t ≡ step (Open n) store b
-    unfolding step_by
-    row-judged t q e = ap (gives Waiting store) q ∙ row (Open n) cr fits (is-cr b e)
-
-    pub row-full : b ≢ SOI → b ≢ CR → n ≡ 4110 → gives Waiting store (refused 1) ≡ step (Open n) store b
-    unfolding step_by
-    row-full e f g = rw (← row (Open n) other fits (is-other b e f)) (simp (le-ltb n 4110 (omega arith)))
+    unfolding step step_by kind
+    row-judged t q e = grind arith
 
     pub row_more : b ≢ SOI → b ≢ CR → n ≢ 4110 → gives (Open (n + 1)) (set store n b) nothing ≡ step (Open n) store b
-    unfolding step_by
-    row_more e f g = rw (add-one n, ← row (Open n) other fits (is-other b e f)) (simp (lt-ltb n 4110 (omega arith)))
-
--- all of them, for the functions that step
-pub ruleset rows = (step-short, step-beyond, row_opens, row-idle, row-again, row-judged, row-full, row_more)
+    unfolding step step_by kind
+    row_more e f g = grind arith

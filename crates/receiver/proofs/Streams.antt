@@ -1,13 +1,9 @@
 -- The receiver over a stream, by places: list work over `heard`, the machine is not looked at again. A damaged stretch shares no place with a whole encoding.
-use mathlib.Core.Path.{◌≡◌, refl, sym, ap, ◌∙◌, subst}
-use mathlib.Core.Logic.{◌⊎◌, inl, inr, ◌↔◌, ◌≢◌}
-use mathlib.Core.List.{List, [], ◌∷◌, ◌++◌, append_assoc, head-eq_of_cons-eq, tail-eq_of_cons-eq}
-use Prim.Native.Nat.{ℕ, zero, suc, ◌+◌, ◌-◌, ◌≤◌, ◌<◌}
-use native.Mathlib.Numerals.{add-one}
-use native.Mathlib.Decide.{dec_lt}
-use native.Mathlib.Omega.{arith}
-use lib.ListN.{length, get_or, take, drop, set, length-append, length-drop, take-append-drop, get_or-eq_default, get_or-append}
-use lib.Seq.{set_split, take-suc, take-take, drop-cons, append_snoc, slice, length-take-le, get_or-take, get_or-drop, get_or-append_seam, get_or-append-add, take-append-add, drop-append-add, drop-append-le, split_at, take-append-le, take_at, length-slice}
+use Rattle.std.proofs.Common.{◌≡◌, refl, sym, ap, ◌∙◌, subst, ◌⊎◌, inl, inr, ◌↔◌, ◌≢◌, List, [], ◌∷◌, ◌++◌, append_assoc, ℕ, zero, suc, ◌+◌, ◌-◌, ◌≤◌, ◌<◌, add-one, arith, length, get_or, take, drop, set, length-append, length-drop, take-append-drop, take-suc, take-take, drop-cons, length-take-le, get_or-take, get_or-drop, get_or-append-add, take_at}
+use mathlib.Core.List.{head-eq_of_cons-eq, tail-eq_of_cons-eq}
+use Rattle.std.proofs.Math.Decide.{dec_lt}
+use Rattle.std.proofs.Math.ListN.{get_or-eq_default, get_or-append}
+use Rattle.std.proofs.Math.Seq.{set_split, append_snoc, slice, get_or-append_seam, take-append-add, drop-append-add, drop-append-le, split_at, take-append-le, length-slice}
 use Rattle.buffer.proofs.Lists.{levi, Levi}
 use Rattle.hex_chars.proofs.Laws.{said, Hexy, hexy-cut, hexy-join}
 use Rattle.frame.specs.declared.Header.{Header}

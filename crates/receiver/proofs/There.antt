@@ -1,12 +1,5 @@
 -- There are calls: what a step or a run tells, an event says; so any call can follow any others, and some calls take the whole of a stream.
-use mathlib.Core.Path.{◌≡◌, refl, sym, subst}
-use mathlib.Core.Bool.{Bool, true, false}
-use mathlib.Core.List.{List, [], ◌∷◌, ◌++◌}
-use Prim.Native.Nat.{ℕ, zero, suc}
-use native.Mathlib.Omega.{arith}
-use lib.ListN.{length, get_or, take, drop, length-append}
-use lib.Seq.{drop-drop}
-use lib.Dec.{ltb}
+use Rattle.std.proofs.Common.{◌≡◌, refl, sym, subst, Bool, true, false, List, [], ◌∷◌, ◌++◌, ℕ, zero, suc, arith, length, get_or, take, drop, length-append, drop-drop, ltb, Option, Some, None}
 use Rattle.refusal.specs.declared.Refusal.{Refusal}
 use Rattle.refusal.specs.declared.Refusal.TheVariants.{TooLong, SoiInside, TooShort, LowerCase, LchksumDiffers, LenidOdd, CountDiffers, ChksumDiffers, NoHexDigit, BufferTooShort, ReceiverBeyondStore}
 use Rattle.refusal.specs.Number.{number}
@@ -16,8 +9,7 @@ use Rattle.hex_chars.specs.Hex.{all_hex, bad_place, is_lower}
 use Rattle.frame.specs.Judge.{Told, nothing, frame, refused, refused_at, carries_place, need, need_hex, judge, header, lenid}
 use Rattle.receiver.specs.declared.Receiver.{Receiver}
 use Rattle.receiver.specs.declared.Receiver.TheVariants.{Waiting, Open}
-use Rattle.receiver.specs.declared.Event.{Event}
-use Rattle.receiver.specs.declared.Event.TheVariants.{Nothing, Frame, Refused, RefusedAt}
+use Rattle.frame.specs.Answered.{Judged, framed_by, refused_by, refused_at_by}
 use Rattle.receiver.specs.Step.{Kind, soi, cr, other, kind, After, step_by, beyond, step, paper}
 use Rattle.receiver.specs.Run.{Run, is_nothing, stepping, run}
 use Rattle.receiver.specs.Calls.{Asked, to_run, to_step, Can, Caller, Calls, Offered, taken, Call, ran, stepped, asked, Keeps}
@@ -81,10 +73,10 @@ module _ (P : Told → Type 0) (h : Holds P) where
 
 -- an event says it
 abbrev Said : Told → Type 0
-Said t = (e : Event) × (paper e ≡ t)
+Said t = (e : Option Judged) × (paper e ≡ t)
 
 said : Holds Said
-said = record { quiet = (Nothing, refl); whole = λ h n. (Frame h n, refl); plain = λ r e. (Refused r, refl); placed = λ r e p. (RefusedAt r p, refl) }
+said = record { quiet = (None, refl); whole = λ h n. (Some (framed_by h n), refl); plain = λ r e. (Some (refused_by r), refl); placed = λ r e p. (Some (refused_at_by r p), refl) }
 
 -- ---- a call for what is asked
 

@@ -1,12 +1,11 @@
 -- The receiver: waiting, or open with a count of characters, which stand at the front of a lent store. Each byte gives one event.
-use Rattle.std.specs.Prelude.{◌≡◌, Bool, false, cond, List, ℕ, suc, length, take, set, ltb, eqb}
-use Rattle.refusal.specs.Number.{number}
+use Rattle.std.specs.Prelude.{◌≡◌, Bool, false, cond, List, ℕ, suc, length, take, set, ltb, eqb, Option, Some, None, Result}
 use Rattle.frame.specs.Frame.{SOI, CR}
-use Rattle.frame.specs.Judge.{Told, nothing, frame, refused, refused_at, judge}
+use Rattle.frame.specs.declared.Frame.{Frame}
+use Rattle.frame.specs.declared.Fault.{Fault}
+use Rattle.frame.specs.Judge.{Told, nothing, refused, judge, paper as paper_judged}
 use Rattle.receiver.specs.declared.Receiver.{Receiver}
 use Rattle.receiver.specs.declared.Receiver.TheVariants.{Waiting, Open}
-use Rattle.receiver.specs.declared.Event.{Event}
-use Rattle.receiver.specs.declared.Event.TheVariants.{Nothing, Frame, Refused, RefusedAt}
 use Rattle.receiver.specs.declared.Stepped.{Stepped}
 
 -- what a byte is to the receiver
@@ -49,11 +48,9 @@ step r store b =
     (step_by (kind b) r store b))
 
 -- the paper's number and values of an event
-abbrev pub paper : Event → Told
-paper Nothing = nothing
-paper (Frame h n) = frame h n
-paper (Refused r) = refused (number r)
-paper (RefusedAt r p) = refused_at (number r) p
+abbrev pub paper : Option (Result Frame Fault) → Told
+paper None = nothing
+paper (Some judged) = paper_judged judged
 
 -- the contract of a step: its answer and the store then
 abbrev pub Steps : Receiver → List ℕ → ℕ → Stepped → List ℕ → Type 0

@@ -2,33 +2,28 @@
 
 #![tactic(auto)]
 
-ghost use Rattle.std.specs.Prelude.{◌≡◌, cond, ◌<◌, ◌≤◌, length};
+ghost use Rattle.std.specs.Prelude.{◌≡◌, ℕ, Bool, ◌<◌, ◌≤◌, length};
+ghost use Rattle.std.specs.List.{list_any, position_or_len};
+ghost use Rattle.refusal.specs.Number.{number};
 ghost use Rattle.buffer.specs.Put.{Room};
-ghost use Rattle.frame.specs.Judge.{paper as paper_judged};
-ghost use Rattle.buffer.specs.Scan.{any, before, Clear};
-ghost use Rattle.receiver.specs.Step.{paper, beyond, Steps};
-ghost use Rattle.receiver.specs.Run.{is_nothing, count_of, Runs};
-ghost use Rattle.receiver.specs.Pass.{is_soi, is_end, moved, Stored, Passed};
+ghost use Rattle.frame.specs.Judge.{refused, judge};
+ghost use Rattle.receiver.specs.Step.{beyond, paper, Steps};
+ghost use Rattle.receiver.specs.Run.{count_of, Runs};
+ghost use Rattle.receiver.specs.Pass.{is_soi, is_end, Behind, Fits, call_refusal, moved, Stored, Passed};
 
-use frame::{CR, Header, Judged, MOST, SOI};
+use frame::{CR, Fault, Frame, MOST, SOI};
 use refusal::Refusal;
+use std::hint::select_unpredictable;
 
-// Waiting, or open with a count of characters.
+// Waiting, or open with a count of characters. No Option of a count: the theorems and the C interface name these two states.
 #[derive(Clone, Copy)]
 pub enum Receiver {
     Waiting,
     Open(usize),
 }
 
-// What a byte gives: nothing, a frame with its four bytes and LENID, or a refusal, with the place of the first character that isn't hex
-// where that is why.
-#[derive(Clone, Copy)]
-pub enum Event {
-    Nothing,
-    Frame(Header, usize),
-    Refused(Refusal),
-    RefusedAt(Refusal, u32),
-}
+// What a byte gives: nothing, or a frame or a refusal.
+pub type Event = Option<Result<Frame, Fault>>;
 
 #[derive(Clone, Copy)]
 pub struct Stepped {
@@ -36,7 +31,8 @@ pub struct Stepped {
     pub event: Event,
 }
 
-// What a run leaves: how many bytes it took, and how many characters were held when the event's byte came.
+// What a run leaves: how many bytes it took, and how many characters were held when the event's byte came (0 where nothing came).
+// That number stands beside the event, and not in it, for the C interface and the definition `Run` have it so.
 #[derive(Clone, Copy)]
 pub struct Ran {
     pub next: Receiver,
@@ -62,208 +58,113 @@ fn is_end(x: u8) -> bool
     (x == SOI) | (x == CR)
 }
 
-// Whether a SOI is among the bytes. No early exit, so that the loop is compiled to vector code.
-fn has_soi(s: &[u8]) -> bool
-    ensures { result ≡ any is_soi s.now }
-{
-    let mut hit = false;
-    let mut i: usize = 0;
-    while i < s.len() {
-        hit = hit | (s[i] == SOI);
-        i += 1;
-    }
-    hit
+// What a scan looks for.
+trait Mark {
+    // Whether a byte is a mark.
+    ghost test: { ℕ → Bool };
+
+    // Whether a block has one. No early exit, so that the loop is compiled to vector code.
+    fn is_in(block: &[u8]) -> bool
+        ensures { result ≡ list_any test block.now };
 }
 
-// Whether a SOI or a CR is. Two flags: with one the compiler finds no vector code that is worth it.
-fn has_end(s: &[u8]) -> bool
-    ensures { result ≡ any is_end s.now }
-{
-    let mut soi = false;
-    let mut cr = false;
-    let mut i: usize = 0;
-    while i < s.len() {
-        let x = s[i];
-        soi = soi | (x == SOI);
-        cr = cr | (x == CR);
-        i += 1;
-    }
-    soi | cr
-}
+// SOI.
+struct Soi;
 
-// Passes blocks of a width from a place on, up to one that has a SOI.
-fn pass_without_soi(s: &[u8], from: usize, width: usize) -> usize
-    requires { (0 < width) × Clear is_soi s.now from }
-    ensures { Clear is_soi s.now result }
-{
-    let mut i = from;
-    while width <= s.len() - i {
-        let e = i + width;
-        if has_soi(&s[i..e]) {
-            return i;
+impl Mark for Soi {
+    ghost test = { is_soi };
+
+    fn is_in(block: &[u8]) -> bool {
+        let mut hit = false;
+        for &x in block {
+            hit |= x == SOI;
         }
-        i += width;
+        hit
     }
-    i
 }
 
-// The place of the first SOI from a place on, or the length: byte by byte.
-fn first_soi(s: &[u8], from: usize) -> usize
-    requires { Clear is_soi s.now from }
-    ensures { result ≡ before is_soi s.now }
-{
-    let mut i = from;
-    while i < s.len() {
-        if s[i] == SOI {
-            return i;
+// SOI or CR.
+struct End;
+
+impl Mark for End {
+    ghost test = { is_end };
+
+    // Two flags: with one the compiler finds no vector code that is worth it.
+    fn is_in(block: &[u8]) -> bool {
+        let mut soi = false;
+        let mut cr = false;
+        for &x in block {
+            soi |= x == SOI;
+            cr |= x == CR;
         }
-        i += 1;
+        soi | cr
     }
-    i
 }
 
-// The place of the first SOI, or the length. Where frames follow each other it is the first byte; else wide blocks are passed, then
-// smaller ones in the wide one that has it.
+// Passes the blocks at the start that have no mark: what is left behind them.
+#[tactic(auto, using(crate::proofs::Scans::scans))]
+fn pass_blocks<M: Mark, const WIDTH: usize>(s: &[u8]) -> &[u8]
+    requires { (0 < WIDTH) × (WIDTH ≤ 512) }
+    ensures { Behind M.test s.now result.now }
+{
+    let (blocks, rest) = s.as_chunks::<WIDTH>();
+    for (i, block) in blocks.iter().enumerate() {
+        if M::is_in(block) {
+            return &s[i * WIDTH..];
+        }
+    }
+    rest
+}
+
+// How many bytes stand before the first SOI, all of them where there is none: byte by byte.
+#[tactic(auto, using(crate::proofs::Scans::scans))]
+fn first_soi(s: &[u8]) -> usize
+    ensures { result ≡ position_or_len is_soi s.now }
+{
+    s.iter().position(|&x| x == SOI).unwrap_or(s.len())
+}
+
+// How many bytes stand before the first SOI, all of them where there is none. Where frames follow each other it is the first byte; else wide
+// blocks are passed, then smaller ones in the wide one that has it.
+#[tactic(auto, using(crate::proofs::Scans::scans))]
 fn find_soi(s: &[u8]) -> usize
-    ensures { result ≡ before is_soi s.now }
+    ensures { result ≡ position_or_len is_soi s.now }
 {
-    if s.len() == 0 {
+    if s.first() == Some(&SOI) {
         return 0;
     }
-    if s[0] == SOI {
-        return 0;
-    }
-    let wide = pass_without_soi(s, 0, WIDE);
-    let near = pass_without_soi(s, wide, BLOCK);
-    first_soi(s, near)
-}
-
-// Passes blocks of a width from a place on, up to one that has a SOI or a CR.
-fn pass_plain(s: &[u8], from: usize, width: usize) -> usize
-    requires { (0 < width) × Clear is_end s.now from }
-    ensures { Clear is_end s.now result }
-{
-    let mut i = from;
-    while width <= s.len() - i {
-        let e = i + width;
-        if has_end(&s[i..e]) {
-            return i;
-        }
-        i += width;
-    }
-    i
+    let near = pass_blocks::<Soi, BLOCK>(pass_blocks::<Soi, WIDE>(s));
+    s.len() - near.len() + first_soi(near)
 }
 
 // How many bytes at the start are neither SOI nor CR, counted in fours: none where the first four have one, as in noise full of them;
 // else by blocks, by narrow ones, then four by four.
 fn plain(s: &[u8]) -> usize
-    ensures { result ≤ before is_end s.now }
+    ensures before { result ≤ position_or_len is_end s.now }
+    ensures within { result ≤ length s.now }
 {
-    if s.len() < FEW {
+    let Some((few, behind)) = s.split_first_chunk::<FEW>() else {
+        return 0;
+    };
+    if End::is_in(few) {
         return 0;
     }
-    if has_end(&s[..FEW]) {
-        return 0;
-    }
-    let blocks = pass_plain(s, FEW, BLOCK);
-    let narrow = pass_plain(s, blocks, NARROW);
-    pass_plain(s, narrow, FEW)
+    let narrow = pass_blocks::<End, NARROW>(pass_blocks::<End, BLOCK>(behind));
+    s.len() - pass_blocks::<End, FEW>(narrow).len()
 }
 
-// What a CR gives: the characters were judged, then waiting.
-fn closed(judged: Judged) -> Stepped
-    ensures { (result.next ≡ Receiver.Waiting) × (paper result.event ≡ paper_judged judged) }
+// A refusal as an event.
+fn refused(refusal: Refusal) -> Event
+    ensures { paper result ≡ refused (number refusal) }
 {
-    match judged {
-        Judged::Frame(header, lenid) => Stepped {
-            next: Receiver::Waiting,
-            event: Event::Frame(header, lenid),
-        },
-        Judged::Refused(refusal) => Stepped {
-            next: Receiver::Waiting,
-            event: Event::Refused(refusal),
-        },
-        Judged::RefusedAt(refusal, place) => Stepped {
-            next: Receiver::Waiting,
-            event: Event::RefusedAt(refusal, place),
-        },
-    }
+    Some(Err(Fault::from(refusal)))
 }
 
-fn is_nothing(event: Event) -> bool
-    ensures { result ≡ is_nothing (paper event) }
+// What is held, judged.
+fn judged(held: &[u8]) -> Event
+    ensures { paper result ≡ judge held.now }
 {
-    match event {
-        Event::Nothing => true,
-        Event::Frame(_, _) => false,
-        Event::Refused(_) => false,
-        Event::RefusedAt(_, _) => false,
-    }
-}
-
-fn least(a: usize, b: usize) -> usize
-    ensures { (result ≤ a) × (result ≤ b) }
-{
-    if a < b { a } else { b }
-}
-
-// One byte while waiting.
-#[tactic(auto, using(crate::proofs::Rows::rows))]
-fn wait_step(store: &[u8], byte: u8) -> Stepped
-    requires { 4110 ≤ length store.now }
-    ensures { Steps Receiver.Waiting store.now byte result store.now }
-{
-    if byte == SOI {
-        return Stepped {
-            next: Receiver::Open(0),
-            event: Event::Nothing,
-        };
-    }
-    Stepped {
-        next: Receiver::Waiting,
-        event: Event::Nothing,
-    }
-}
-
-// One byte while open with a count of characters, the common case first.
-#[tactic(auto, using(crate::proofs::Rows::rows))]
-fn open_step(store: &mut [u8], count: usize, byte: u8) -> Stepped
-    requires { (4110 ≤ length store.old) × (count ≤ 4110) }
-    ensures { Steps (Receiver.Open count) store.old byte result store.new }
-{
-    if byte != SOI {
-        if byte != CR {
-            if count != MOST {
-                store[count] = byte;
-                let more = count + 1;
-                return Stepped {
-                    next: Receiver::Open(more),
-                    event: Event::Nothing,
-                };
-            }
-            return Stepped {
-                next: Receiver::Waiting,
-                event: Event::Refused(Refusal::TooLong),
-            };
-        }
-        return closed(frame::judge(&store[..count]));
-    }
-    Stepped {
-        next: Receiver::Open(0),
-        event: Event::Refused(Refusal::SoiInside),
-    }
-}
-
-fn pick(first: bool, a: u8, b: u8) -> u8
-    ensures { result ≡ cond first a b }
-{
-    if first { a } else { b }
-}
-
-fn one_if(more: bool) -> usize
-    ensures { result ≡ cond more 1 0 }
-{
-    if more { 1 } else { 0 }
+    Some(frame::judge(held))
 }
 
 // Stores those of the first four bytes that stand before a SOI or a CR, and answers how many: each place gets its byte or what it has.
@@ -272,30 +173,34 @@ fn store_few(store: &mut [u8], at: usize, s: &[u8]) -> usize
     requires { Room store.old at s.now }
     ensures { Stored store.old at s.now result store.new }
 {
-    if s.len() < FEW {
+    let Some((few, _)) = s.split_first_chunk::<FEW>() else {
         return 0;
-    }
-    let mut k: usize = 0;
-    let mut j: usize = 0;
-    while j < FEW {
-        let x = s[j];
+    };
+    let mut k = 0;
+    for (j, &x) in few.iter().enumerate() {
         let more = (k == j) & !is_end(x);
-        store[at + j] = pick(more, x, store[at + j]);
-        k += one_if(more);
-        j += 1;
+        store[at + j] = select_unpredictable(more, x, store[at + j]);
+        k += usize::from(more);
     }
     k
 }
 
-// Stores bytes of a piece before its first SOI or CR from place count on, as many as may be or nearly so, and answers how many.
+// Stores bytes of a piece before its first SOI or CR from place count on, as many as may be or nearly so, and answers how many. In noise
+// full of them nothing is scanned; there the branch costs less than to call for a copy of no bytes.
+#[tactic(auto, using(buffer::proofs::Puts::puts_mid))]
 fn store_plain(store: &mut [u8], count: usize, piece: &[u8]) -> usize
-    requires { (4110 ≤ length store.old) × (count ≤ 4110) }
+    requires { Fits (Receiver.Open count) store.old }
     ensures { Passed (Receiver.Open count) store.old piece.now result store.new }
 {
-    let most = least(MOST - count, piece.len());
-    let k = plain(&piece[..most]);
-    let next = buffer::put_all(store, count, &piece[..k]);
-    k + store_few(store, next, &piece[k..most])
+    let most = (MOST - count).min(piece.len());
+    let fitting = &piece[..most];
+    let k = plain(fitting);
+    if k == 0 {
+        return store_few(store, count, fitting);
+    }
+    let next = count + k;
+    store[count..next].copy_from_slice(&fitting[..k]);
+    k + store_few(store, next, &fitting[k..])
 }
 
 impl Receiver {
@@ -320,10 +225,7 @@ impl Receiver {
     pub fn is_beyond(self) -> bool
         ensures { result ≡ beyond self }
     {
-        match self {
-            Receiver::Waiting => false,
-            Receiver::Open(count) => MOST < count,
-        }
+        MOST < self.count()
     }
 
     // After k bytes that it only waits over, or only stores.
@@ -338,19 +240,45 @@ impl Receiver {
     }
 
     // One byte, where the store is long enough and the count within it.
+    #[tactic(auto, unfolding(crate::specs::Step::step, crate::specs::Step::step_by, crate::specs::Step::kind))]
     fn advance(self, store: &mut [u8], byte: u8) -> Stepped
-        requires { (4110 ≤ length store.old) × (count_of self ≤ 4110) }
+        requires { Fits self store.old }
         ensures { Steps self store.old byte result store.new }
     {
-        match self {
-            Receiver::Waiting => wait_step(store, byte),
-            Receiver::Open(count) => open_step(store, count, byte),
+        match (self, byte) {
+            (Receiver::Waiting, SOI) => Stepped {
+                next: Receiver::Open(0),
+                event: None,
+            },
+            (Receiver::Waiting, _) => Stepped {
+                next: Receiver::Waiting,
+                event: None,
+            },
+            (Receiver::Open(_), SOI) => Stepped {
+                next: Receiver::Open(0),
+                event: refused(Refusal::SoiInside),
+            },
+            (Receiver::Open(count), CR) => Stepped {
+                next: Receiver::Waiting,
+                event: judged(&store[..count]),
+            },
+            (Receiver::Open(MOST), _) => Stepped {
+                next: Receiver::Waiting,
+                event: refused(Refusal::TooLong),
+            },
+            (Receiver::Open(count), _) => {
+                store[count] = byte;
+                Stepped {
+                    next: Receiver::Open(count + 1),
+                    event: None,
+                }
+            }
         }
     }
 
-    // Passes the bytes at the start of a piece that it only waits over, or only stores, and answers how many.
+    // Passes bytes at the start of a piece that it only waits over, or only stores, and answers how many.
     fn pass(self, store: &mut [u8], piece: &[u8]) -> usize
-        requires { (4110 ≤ length store.old) × (count_of self ≤ 4110) }
+        requires { Fits self store.old }
         ensures { Passed self store.old piece.now result store.new }
     {
         match self {
@@ -359,92 +287,78 @@ impl Receiver {
         }
     }
 
-    // A run, where the store is long enough and the count within it: passes what it can, and steps over the byte after that.
+    // A run, where the store is long enough and the count within it: passes what it can, steps over the byte behind that, and so on.
     fn run_within(self, store: &mut [u8], piece: &[u8]) -> Ran
-        requires { (4110 ≤ length store.old) × (count_of self ≤ 4110) }
+        requires { Fits self store.old }
         ensures { Runs self store.old piece.now result store.new }
     {
         let mut now = self;
-        let mut i: usize = 0;
-        while i < piece.len() {
-            let k = now.pass(store, &piece[i..]);
-            let at = now.moved(k);
-            i += k;
-            if i == piece.len() {
+        let mut rest = piece;
+        loop {
+            let passed = now.pass(store, rest);
+            let at = now.moved(passed);
+            let Some((&byte, behind)) = rest[passed..].split_first() else {
                 return Ran {
                     next: at,
-                    event: Event::Nothing,
-                    taken: i,
+                    event: None,
+                    taken: piece.len(),
                     held: 0,
                 };
-            }
-            let stepped = at.advance(store, piece[i]);
-            i += 1;
-            let event = stepped.event;
-            let next = stepped.next;
-            if !is_nothing(event) {
+            };
+            let stepped = at.advance(store, byte);
+            if stepped.event.is_some() {
                 return Ran {
-                    next,
-                    event,
-                    taken: i,
+                    next: stepped.next,
+                    event: stepped.event,
+                    taken: piece.len() - behind.len(),
                     held: at.count(),
                 };
             }
-            now = next;
-        }
-        Ran {
-            next: now,
-            event: Event::Nothing,
-            taken: i,
-            held: 0,
+            now = stepped.next;
+            rest = behind;
         }
     }
 
-    // One byte: the next receiver and the event. 32 for a store below 4,110 bytes, then 35 for a count above 4,110.
-    #[tactic(auto, using(crate::proofs::Rows::rows))]
+    // What a call is refused with: 32 for a store below 4,110 bytes, then 35 for a count above 4,110.
+    fn refusal(self, store: &[u8]) -> Option<Refusal>
+        ensures { result ≡ call_refusal self store.now }
+    {
+        if store.len() < MOST {
+            return Some(Refusal::BufferTooShort);
+        }
+        if self.is_beyond() {
+            return Some(Refusal::ReceiverBeyondStore);
+        }
+        None
+    }
+
+    // One byte: the next receiver and the event. 32 and 35 leave the receiver as it was.
+    #[tactic(auto, unfolding(crate::specs::Step::step))]
     pub fn step(self, store: &mut [u8], byte: u8) -> Stepped
         ensures { Steps self store.old byte result store.new }
     {
-        if store.len() < MOST {
-            return Stepped {
+        match self.refusal(store) {
+            Some(refusal) => Stepped {
                 next: self,
-                event: Event::Refused(Refusal::BufferTooShort),
-            };
-        }
-        match self {
-            Receiver::Waiting => wait_step(store, byte),
-            Receiver::Open(count) => {
-                if MOST < count {
-                    return Stepped {
-                        next: self,
-                        event: Event::Refused(Refusal::ReceiverBeyondStore),
-                    };
-                }
-                open_step(store, count, byte)
-            }
+                event: refused(refusal),
+            },
+            None => self.advance(store, byte),
         }
     }
 
     // A piece of the stream, up to and including the byte that gives an event, or all of it: the same as stepping. 32 and 35 take no byte.
+    #[tactic(auto, unfolding(crate::specs::Run::run))]
     pub fn run(self, store: &mut [u8], piece: &[u8]) -> Ran
         ensures { Runs self store.old piece.now result store.new }
     {
-        if store.len() < MOST {
-            return Ran {
+        match self.refusal(store) {
+            Some(refusal) => Ran {
                 next: self,
-                event: Event::Refused(Refusal::BufferTooShort),
+                event: refused(refusal),
                 taken: 0,
                 held: 0,
-            };
+            },
+            None => self.run_within(store, piece),
         }
-        if self.is_beyond() {
-            return Ran {
-                next: self,
-                event: Event::Refused(Refusal::ReceiverBeyondStore),
-                taken: 0,
-                held: 0,
-            };
-        }
-        self.run_within(store, piece)
     }
 }

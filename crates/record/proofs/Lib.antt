@@ -1,4 +1,4 @@
-pub mod Sixteen
+pub mod Filled
 pub mod Typed
 pub mod Inverses
 pub mod Lines

@@ -39,16 +39,16 @@ unfolding capacities
 total-65001 = refl
 
 -- items 3 as the last byte is 18, not 16
-pub items-3 : capacities.get (0xFA ∷ 0x00 ∷ 3 ∷ []) ≡ no 18
+pub items-3 : capacities.get (0xFA ∷ 0x00 ∷ 3 ∷ []) ≡ no 18 []
 unfolding capacities
 items-3 = refl
 
 -- items 2 with FFFF is 19, after the record's last byte; cut short it is 16
-pub items-2-FFFF : capacities.get (0xFF ∷ 0xFF ∷ 2 ∷ 0xFF ∷ 0xFF ∷ 0 ∷ 7 ∷ []) ≡ no 19
+pub items-2-FFFF : capacities.get (0xFF ∷ 0xFF ∷ 2 ∷ 0xFF ∷ 0xFF ∷ 0 ∷ 7 ∷ []) ≡ no 19 []
 unfolding capacities
 items-2-FFFF = refl
 
-pub items-2-short : capacities.get (0xFF ∷ 0xFF ∷ 2 ∷ 0xFF ∷ 0xFF ∷ 0 ∷ []) ≡ no 16
+pub items-2-short : capacities.get (0xFF ∷ 0xFF ∷ 2 ∷ 0xFF ∷ 0xFF ∷ 0 ∷ []) ≡ no 16 []
 unfolding capacities
 items-2-short = refl
 

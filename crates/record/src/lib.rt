@@ -1,4 +1,5 @@
-// The module record, as 42H, 44H, 47H, 92H, 93H and 96H carry it, and what its numbers mean. Places of a list beyond its count are 0.
+// The module record, as 42H, 44H, 47H, 92H, 93H and 96H carry it, and what its numbers mean. Places of a list beyond its count are 0: a count
+// beside a list of fixed length, since nothing is kept on a heap and C has the same structs.
 
 #![tactic(auto)]
 
@@ -12,7 +13,7 @@ ghost use Rattle.record.specs.Nothing.{no_analog, no_alarm, no_limits, no_parame
 
 // 42H: cells in mV, temperatures as raw words, current in 100 mA (charge positive), module voltage in mV, remaining and total in mAh.
 #[repr(C)]
-#[derive(Clone, Copy)]
+#[derive(Clone, Copy, Default)]
 pub struct Analog {
     pub cell_count: u8,
     pub cells: [i16; 16],
@@ -27,7 +28,7 @@ pub struct Analog {
 
 // 44H: alarm codes and the five status bytes.
 #[repr(C)]
-#[derive(Clone, Copy)]
+#[derive(Clone, Copy, Default)]
 pub struct Alarm {
     pub cell_count: u8,
     pub cells: [u8; 16],
@@ -41,7 +42,7 @@ pub struct Alarm {
 
 // 92H: voltage limits in mV, current limits in 100 mA.
 #[repr(C)]
-#[derive(Clone, Copy)]
+#[derive(Clone, Copy, Default)]
 pub struct Limits {
     pub charge_voltage: u16,
     pub discharge_voltage: u16,
@@ -53,7 +54,7 @@ pub struct Limits {
 // 47H: the limits that a module holds itself to, of a cell, of charge, of the module and of discharge: voltages in mV (low: alarm, under:
 // protection), temperatures as raw words, currents in 100 mA.
 #[repr(C)]
-#[derive(Clone, Copy)]
+#[derive(Clone, Copy, Default)]
 pub struct Parameters {
     pub cell_high_voltage: i16,
     pub cell_low_voltage: i16,
@@ -84,95 +85,46 @@ pub struct Module {
     pub parameters: Parameters,
 }
 
-// ---- records of zeros
+// ---- records of zeros: what the derived `Default` gives, said in a contract
 
 pub fn zero_analog() -> Analog
     ensures { result ≡ no_analog }
 {
-    let cells = [0i16; 16];
-    let temperatures = [0i16; 8];
-    Analog {
-        cell_count: 0,
-        cells: cells,
-        temperature_count: 0,
-        temperatures: temperatures,
-        current: 0,
-        voltage: 0,
-        remaining: 0,
-        total: 0,
-        cycles: 0,
-    }
+    Analog::default()
 }
 
 pub fn zero_alarm() -> Alarm
     ensures { result ≡ no_alarm }
 {
-    let cells = [0u8; 16];
-    let temperatures = [0u8; 8];
-    let status = [0u8; 5];
-    Alarm {
-        cell_count: 0,
-        cells: cells,
-        temperature_count: 0,
-        temperatures: temperatures,
-        charge_current: 0,
-        module_voltage: 0,
-        discharge_current: 0,
-        status: status,
-    }
+    Alarm::default()
 }
 
 pub fn zero_limits() -> Limits
     ensures { result ≡ no_limits }
 {
-    Limits {
-        charge_voltage: 0,
-        discharge_voltage: 0,
-        charge_current: 0,
-        discharge_current: 0,
-        status: 0,
-    }
+    Limits::default()
 }
 
 pub fn zero_parameters() -> Parameters
     ensures { result ≡ no_parameters }
 {
-    Parameters {
-        cell_high_voltage: 0,
-        cell_low_voltage: 0,
-        cell_under_voltage: 0,
-        charge_high_temperature: 0,
-        charge_low_temperature: 0,
-        charge_current: 0,
-        module_high_voltage: 0,
-        module_low_voltage: 0,
-        module_under_voltage: 0,
-        discharge_high_temperature: 0,
-        discharge_low_temperature: 0,
-        discharge_current: 0,
-    }
+    Parameters::default()
 }
 
-// ---- what numbers mean
+// ---- what numbers mean; these are public functions with contracts and wrong programs of their own, so they stay, though each is one call of std's
 
 // A word as a signed number.
 pub fn signed(word: u16) -> i16
     ensures { result ≡ to_z w16 word }
 {
-    if word < 32768 {
-        return word as i16;
-    }
-    (word as i32 - 65536) as i16
+    word.cast_signed()
 }
 
 // The word of a signed number.
 pub fn word_of(value: i16) -> u16
     ensures { result ≡ of_z w16 value }
 {
-    if value < 0 {
-        return (value as i32 + 65536) as u16;
-    }
-    value as u16
+    value.cast_unsigned()
 }
 
 // The two bytes of a current: a signed number of 100 mA.
@@ -186,17 +138,18 @@ pub fn current(word: u16) -> i16
 pub fn milliamps(current: i16) -> i32
     ensures { result ≡ milliamps_of current }
 {
-    current as i32 * 100
+    i32::from(current) * 100
 }
 
 // A temperature in tenths of a degree Celsius.
 pub fn tenths_celsius(raw: i16) -> i32
     ensures { result ≡ tenths_celsius_of raw }
 {
-    raw as i32 - 2731
+    i32::from(raw) - 2731
 }
 
 // Whether a module can have this address.
+#[tactic(auto, unfolding(crate::specs::Address::is_address))]
 pub fn is_address(adr: u8) -> bool
     ensures { result ≡ is_address adr }
 {
@@ -204,6 +157,7 @@ pub fn is_address(adr: u8) -> bool
 }
 
 // Whether a byte is an alarm code.
+#[tactic(auto, unfolding(crate::specs::Alarm::is_alarm_code))]
 pub fn is_alarm_code(code: u8) -> bool
     ensures { result ≡ is_alarm_code code }
 {

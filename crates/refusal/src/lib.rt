@@ -2,10 +2,10 @@
 
 #![tactic(auto)]
 
-ghost use Rattle.std.specs.Prelude.{◌≡◌};
+ghost use Rattle.std.specs.Prelude.{◌≡◌, if◌then◌else◌};
 ghost use Rattle.refusal.specs.Number.{number};
 
-#[derive(Clone, Copy)]
+#[derive(Clone, Copy, PartialEq, Eq, Debug)]
 pub enum Refusal {
     // frames and the receiver
     TooLong,
@@ -40,7 +40,7 @@ pub enum Refusal {
 }
 
 impl Refusal {
-    // The paper's number.
+    // The paper's number. As discriminants (`TooLong = 1`) two names with one number would not compile: a wrong program that a contract has to refuse.
     pub fn number(self) -> u8
         ensures { result ≡ number self }
     {
@@ -74,4 +74,11 @@ impl Refusal {
             Refusal::ReceiverBeyondStore => 35,
         }
     }
+}
+
+// Goes on where a test passes; otherwise this refusal is the answer.
+pub fn need(test: bool, refusal: Refusal) -> Result<(), Refusal>
+    ensures { result ≡ (if test then Ok tt else Err refusal) }
+{
+    if test { Ok(()) } else { Err(refusal) }
 }

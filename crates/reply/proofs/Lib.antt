@@ -1,3 +1,3 @@
-pub mod Taking
+pub mod Groups
 pub mod Ways
 pub mod Places

@@ -1,5 +1,5 @@
 -- Before a reply's INFO is read: 34, 23, then 1 and 3 to 9, then 11, 12, 13, 14.
-use Rattle.std.specs.Prelude.{Bool, cond, not, ◌&&◌, ◌||◌, List, ℕ, leb, eqb}
+use Rattle.std.specs.Prelude.{Bool, cond, not, ◌&&◌, ◌||◌, List, ℕ, leb, eqb, Option, Some, None, Result, Ok, Err}
 use Rattle.refusal.specs.Number.{number}
 use Rattle.record.specs.declared.Module.{Module}
 use Rattle.frame.specs.Judge.{Told, nothing, frame, refused as judged_refused, refused_at as judged_refused_at}
@@ -7,8 +7,8 @@ use Rattle.table.specs.Table.{is_master, has_member}
 use Rattle.command.specs.Command.{kind_of, terms_of}
 use Rattle.command.specs.Heard.{Words}
 use Rattle.reply.specs.declared.gate.Question.{Question}
-use Rattle.reply.specs.declared.gate.Entry.{Entry}
-use Rattle.reply.specs.declared.gate.Entry.TheVariants.{Open, Refused, RefusedAt}
+use Rattle.refusal.specs.declared.Refusal.{Refusal}
+use Rattle.frame.specs.declared.Fault.{Fault}
 
 -- return codes are 00H to 06H, 90H and 91H
 unfoldable pub is_return_code : ℕ → Bool
@@ -26,10 +26,18 @@ pub data Gated : Type 0 where
   refused : ℕ → Gated
   refused_at : ℕ → ℕ → Gated
 
-abbrev pub paper : Entry → Gated
-paper Open = passed
-paper (Refused r) = refused (number r)
-paper (RefusedAt r p) = refused_at (number r) p
+abbrev pub refusal_gated : Refusal → Option ℕ → Gated
+refusal_gated r None = refused (number r)
+refusal_gated r (Some p) = refused_at (number r) p
+
+abbrev pub paper : Result (Unit {0}) Fault → Gated
+paper (Ok u) = passed
+paper (Err f) = refusal_gated f.refusal f.place
+
+-- of the gate of a frame, whose refusals have no place
+abbrev pub frame_paper : Result (Unit {0}) Refusal → Gated
+frame_paper (Ok u) = passed
+frame_paper (Err r) = refused (number r)
 
 -- a line of the column: where the test holds, that number, else what follows
 infixr 5 ◌refuses◌else◌

@@ -1,5 +1,5 @@
 -- What reading a reply gives: with code 00H the named fields of the asked record, with FFH of each member that is on, all or none.
-use Rattle.std.specs.Prelude.{◌≡◌, Bool, cond, List, ℕ, length, eqb}
+use Rattle.std.specs.Prelude.{◌≡◌, Bool, cond, List, ℕ, length, eqb, Option, Some, None, Result, Ok, Err}
 use Rattle.refusal.specs.Number.{number}
 use Rattle.hex_chars.specs.Hex.{unhexes}
 use Rattle.frame.specs.Frame.{info_at}
@@ -16,8 +16,9 @@ use Rattle.command.specs.declared.Kind.TheVariants.{Analog, AnalogGroup, Alarm, 
 use Rattle.command.specs.Command.{form_of}
 use Rattle.command.specs.Heard.{Words, words}
 use Rattle.reply.specs.declared.gate.Question.{Question}
-use Rattle.reply.specs.declared.Outcome.{Outcome}
-use Rattle.reply.specs.declared.Outcome.TheVariants.{Read, Refused, RefusedAt}
+use Rattle.refusal.specs.declared.Refusal.{Refusal}
+use Rattle.frame.specs.declared.Fault.{Fault}
+use Rattle.reply.specs.declared.Reply.{Reply}
 use Rattle.reply.specs.declared.Reading.{Reading}
 use Rattle.reply.specs.Gate.{Gated, passed, refused as gate_refused, refused_at as gate_refused_at, gate}
 
@@ -49,23 +50,26 @@ took Version ms adr info = mapped ((version_info adr).get info) (λ x. (0, (no_m
 took Unserved ms adr info = refuse 34
 
 -- VER, code and flag, or a refusal with its number, or with its number and a place
-pub data Result : Type 0 where
-  read : ℕ → ℕ → ℕ → Result
-  refused : ℕ → Result
-  refused_at : ℕ → ℕ → Result
+pub data Outcome : Type 0 where
+  read : ℕ → ℕ → ℕ → Outcome
+  refused : ℕ → Outcome
+  refused_at : ℕ → ℕ → Outcome
 
-abbrev pub paper : Outcome → Result
-paper (Read ver code flag) = read ver code flag
-paper (Refused r) = refused (number r)
-paper (RefusedAt r p) = refused_at (number r) p
+abbrev pub refusal_outcome : Refusal → Option ℕ → Outcome
+refusal_outcome r None = refused (number r)
+refusal_outcome r (Some p) = refused_at (number r) p
+
+abbrev pub paper : Result Reply Fault → Outcome
+paper (Ok r) = read r.ver r.code r.flag
+paper (Err f) = refusal_outcome f.refusal f.place
 
 -- that, the 32 bytes of 51H, and the records then
 pub record Left : Type 0 where
-  pub outcome : Result
+  pub outcome : Outcome
   pub maker : List ℕ
   pub modules : List Module
 
-abbrev pub leaves : Result → List ℕ → List Module → Left
+abbrev pub leaves : Outcome → List ℕ → List Module → Left
 leaves outcome maker ms = record { outcome = outcome; maker = maker; modules = ms }
 
 abbrev pub given : ℕ → List Module → Told Data → Left

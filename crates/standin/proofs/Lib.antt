@@ -1,5 +1,5 @@
+pub mod Short
 pub mod Members
 pub mod Filled
 pub mod Replies
 pub mod Silent
-pub mod Maker

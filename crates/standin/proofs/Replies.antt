@@ -1,19 +1,7 @@
--- From what the frame writer leaves to the stand-in's reply, and what a code tells of the member asked.
-use mathlib.Core.Path.{◌≡◌, refl, sym, ap, ◌∙◌}
-use mathlib.Core.Bool.{Bool, true, false, cond, not}
-use mathlib.Core.List.{List, [], ◌++◌}
-use Prim.Native.Nat.{ℕ, ◌≤◌, ◌<◌}
-use native.Mathlib.Omega.{arith}
-use lib.ListN.{length, take, drop}
-use lib.Seq.{take_at}
-use lib.Dec.{leb}
-use borrow.Author.Tests.{le-leb, lt-ltb, le-ltb, eq-eqb, ne_eqb, not-false}
-use Rattle.buffer.specs.declared.Written.{Written}
-use Rattle.buffer.specs.Put.{Put}
-use Rattle.buffer.specs.Writing.{wrote, paper, length_written, Writes}
-use Rattle.buffer.specs.Writing as buffer
-use Rattle.buffer.proofs.Lists.{never}
-use Rattle.buffer.proofs.Puts.{puts-front}
+-- A reply is the frame around the data of its code, which fit in a buffer of 4,112 bytes; and a code is only said where the member asked is on.
+use Rattle.std.proofs.Common.{◌≡◌, ◌≢◌, refl, sym, ap, Bool, true, false, cond, List, [], ◌++◌, ℕ, ◌≤◌, arith, length, length-append, take, drop, take_at, leb, le-leb, eq-eqb, ne_eqb}
+use Rattle.std.proofs.lemmas.Bool.{not-false}
+use Rattle.buffer.specs.Writing.{wrote, length_written, Left, leaves}
 use Rattle.buffer.proofs.Writers.{writing-is}
 use Rattle.frame.specs.declared.Header.{Header}
 use Rattle.frame.specs.Frame.{encode}
@@ -22,80 +10,45 @@ use Rattle.frame.proofs.Steps.{length-encode}
 use Rattle.record.specs.declared.Module.{Module}
 use Rattle.table.specs.declared.Station.{Station}
 use Rattle.table.specs.Table.{is_on, member_at}
-use Rattle.command.specs.Heard.{Words, number_of, words}
+use Rattle.command.specs.Heard.{Words, number_of}
 use Rattle.standin.specs.Says.{Speech, Silent, Code, decide, unheard}
-use Rattle.standin.specs.Answer as Answer
-use Rattle.standin.specs.Answer.{info_by, kind_asked, info_for, reply_header, off_for, reply, silence, leaves, written, says, answer}
-use Rattle.standin.proofs.Filled.{filled}
+use Rattle.standin.specs.Answer.{info_by, kind_asked, info_for}
+use Rattle.standin.specs.Steps.{filled}
 
--- a text that was put at the front of a buffer
-pub put-filled : (out text out' : List ℕ) (n : ℕ) → Put out 0 text out' n → buffer.leaves (wrote n) out' ≡ filled text out
-put-filled out text out' n p =
-    let k : n ≡ length text = omega (arith, p.end) in
-    λ i. buffer.leaves (wrote (k i)) ((p.is ∙ puts-front out text) i)
+-- ---- the data, and the frame around them
 
--- the first bytes of a buffer that a text was written to are the text
-pub front : (text out info : List ℕ) (n : ℕ) → info ≡ text ++ drop (length text) out → n ≡ length text → take n info ≡ text
-front text out info n e k = ap (take n) e ∙ take_at text (drop (length text) out) n (sym k)
+pub framed-filled : (h : Header) (info out : List ℕ) → length info ≤ 816 → 4112 ≤ length out → filled (encode h info) out ≡ framed h info out
+framed-filled h info out short room =
+    sym (writing-is 33 (encode h info) out (leb (length info) 2047) (le-leb (length info) 2047 (omega arith)) (omega (arith, length-encode h info)))
 
-pub filled-length : (text out info : List ℕ) (w : Written) → Writes (filled text out) w info → (length_written (paper w) ≡ length text) × (info ≡ text ++ drop (length text) out)
-filled-length text out info w p = (ap (λ (l : buffer.Left). length_written l.outcome) p, ap (λ (l : buffer.Left). l.out) p)
+-- data that were written to the front of the 816 bytes for them
+pub filled-framed : (h : Header) (text info info' out : List ℕ) (n : ℕ) → length info' ≡ 816 → leaves (wrote n) info' ≡ filled text info → 4112 ≤ length out
+    → framed h (take n info') out ≡ filled (encode h text) out
+filled-framed h text info info' out n long p room =
+    let k : n ≡ length text = ap (λ (l : Left). length_written l.outcome) p in
+    let e : info' ≡ text ++ drop (length text) info = ap (λ (l : Left). l.out) p in
+    rw (e, take_at text _ n (sym k)) (sym (framed-filled h text out (omega (arith, long, ap length e, length-append text (drop (length text) info))) room))
 
--- a frame written with the INFO info
-module _ (h : Header) (info out : List ℕ) (short : length info ≤ 816) (room : 4112 ≤ length out) where
-  pub replied : (w : Written) (out' : List ℕ) (n off : ℕ) → Writes (framed h info out) w out' → n ≡ length_written (paper w)
-      → leaves (reply n) off out' ≡ leaves (reply (length (encode h info))) off (written (encode h info) out)
-  replied w out' n off p e =
-      let q = filled-length (encode h info) out out' w
-      (p ∙ writing-is 33 (encode h info) out (leb (length info) 2047) (le-leb (length info) 2047 (omega arith)) (omega (arith, length-encode h info))) in
-      λ i. leaves (reply ((e ∙ q.0) i)) off (q.1 i)
+module _ (st : Station) (ms : List Module) (w : Words) (code : ℕ) where
+  pub info-there : code ≡ 0 → info_for st ms w code ≡ info_by (kind_asked w) st ms w.header.adr
+  unfolding info_for
+  info-there e = simp (eq-eqb code 0 e)
 
--- ---- the reply with 00H, and with another code
-
-module _ (none : ℕ) (st : Station) (ms : List Module) (w : Words) (code : ℕ) (out : List ℕ) (off : ℕ) (goes : off ≡ off_for none ms w code) where
-  pub says-data : code ≡ 0 → (text : List ℕ) → text ≡ info_by (kind_asked w) st ms w.header.adr
-      → leaves (reply (length (encode (reply_header st w code) text))) off (written (encode (reply_header st w code) text) out) ≡ says none st ms w (Code code) out
-  unfolding says info_for
-  says-data z text e = rw (e, goes, eq-eqb code 0 z)
-
-  pub says_none : (code ≡ 0 → ⊥)
-      → leaves (reply (length (encode (reply_header st w code) []))) off (written (encode (reply_header st w code) []) out) ≡ says none st ms w (Code code) out
-  unfolding says info_for
-  says_none z = rw (goes, ne_eqb code 0 z)
+  pub no-info : code ≢ 0 → info_for st ms w code ≡ []
+  unfolding info_for
+  no-info e = simp (ne_eqb code 0 e)
 
 -- ---- a code is only said where the member asked is on
 
 hush : (test : Bool) (rest : Speech) (k : ℕ) → cond test Silent rest ≡ Code k → (test ≡ false) × (rest ≡ Code k)
-hush true rest k e = never (cc)
+hush true rest k e = cc
 hush false rest k e = (refl, e)
 
 pub said-on : (st : Station) (ms : List Module) (w : Words) (k : ℕ) → decide st ms w ≡ Code k → is_on (member_at w.header.adr ms) ≡ true
 unfolding decide
 said-on st ms w k e =
-    let number = number_of w.told in
-    let a = hush (unheard number) _ k e in
-    let b = hush (not (is_on (member_at w.header.adr ms))) _ k a.1 in
-    not-false (is_on (member_at w.header.adr ms)) b.0
+    not-false (is_on (member_at w.header.adr ms)) (hush _ _ k (hush (unheard (number_of w.told)) _ k e).1).0
 
--- ---- the whole answer
+pub ruleset said = (said-on)
 
-module _ (keeps : Bool) (none : ℕ) (st : Station) (ms : List Module) (stretch out : List ℕ) where
-  pub answer-short : length out < 4112 → leaves (Answer.refused 32) none out ≡ answer keeps none st ms stretch out
-  unfolding answer
-  answer-short h = rw (lt-ltb (length out) 4112 h)
-
-  pub answer-broken : 4112 ≤ length out → keeps ≡ false → leaves (Answer.refused 31) none out ≡ answer keeps none st ms stretch out
-  unfolding answer
-  answer-broken h e = rw (le-ltb (length out) 4112 h, e)
-
-  module _ (h : 4112 ≤ length out) (e : keeps ≡ true) (w : Words) (is : w ≡ words stretch) where
-    pub answer-says : (said : Speech) → said ≡ decide st ms w → says none st ms w said out ≡ answer keeps none st ms stretch out
-    unfolding answer
-    answer-says said d = rw (le-ltb (length out) 4112 h, e, ← is, ← d)
-
-pub says-silent : (none : ℕ) (st : Station) (ms : List Module) (w : Words) (out : List ℕ) → leaves silence none out ≡ says none st ms w Silent out
-unfolding says
-says-silent none st ms w out = refl
-
--- a buffer too short
-pub ruleset too_short = (answer-short)
+pub ruleset replies = (framed-filled, no-info, filled-framed, info-there)

@@ -1,10 +1,5 @@
 -- A character that isn't hex is met with silence: both numbers that it can call for are among those that are not heard.
-use mathlib.Core.Path.{◌≡◌, refl, ap, ◌∙◌}
-use mathlib.Core.Bool.{true}
-use mathlib.Core.List.{List}
-use Prim.Native.Nat.{ℕ, ◌≤◌}
-use lib.ListN.{length, get_or}
-use borrow.Author.Tests.{le-ltb}
+use Rattle.std.proofs.Common.{◌≡◌, refl, ap, ◌∙◌, true, List, ℕ, ◌≤◌, length, get_or, le-ltb}
 use Rattle.buffer.proofs.Lists.{by_cond}
 use Rattle.hex_chars.specs.Hex.{is_lower}
 use Rattle.frame.specs.Place.{Placed}

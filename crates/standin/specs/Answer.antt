@@ -1,5 +1,5 @@
 -- The stand-in's answer: call refusals 32 and 31, silence, or a reply from SOI to CR; an accepted 95H switches its module off.
-use Rattle.std.specs.Prelude.{◌≡◌, Bool, cond, ◌&&◌, List, [], ◌++◌, ℕ, length, drop, get_or, set, ltb, eqb}
+use Rattle.std.specs.Prelude.{◌≡◌, Bool, cond, ◌&&◌, List, [], ◌++◌, ℕ, length, drop, get_or, set, ltb, eqb, Option, Some, None, Result, Ok, Err}
 use Rattle.refusal.specs.Number.{number}
 use Rattle.frame.specs.declared.Header.{Header}
 use Rattle.frame.specs.Frame.{encode}
@@ -13,8 +13,7 @@ use Rattle.command.specs.Command.{form_of}
 use Rattle.command.specs.Heard.{Words, words}
 use Rattle.table.specs.Changes.{switched_off}
 use Rattle.groups.specs.Groups.{analogs_on, alarms_on}
-use Rattle.standin.specs.declared.Answered.{Answered}
-use Rattle.standin.specs.declared.Answered.TheVariants.{Silence, Reply, Refused}
+use Rattle.refusal.specs.declared.Refusal.{Refusal}
 use Rattle.standin.specs.declared.Replied.{Replied}
 use Rattle.standin.specs.Says.{Speech, Silent, Code, decide}
 
@@ -58,10 +57,10 @@ pub data Outcome : Type 0 where
   reply : ℕ → Outcome
   refused : ℕ → Outcome
 
-abbrev pub paper : Answered → Outcome
-paper Silence = silence
-paper (Reply n) = reply n
-paper (Refused r) = refused (number r)
+abbrev pub paper : Result (Option ℕ) Refusal → Outcome
+paper (Ok None) = silence
+paper (Ok (Some n)) = reply n
+paper (Err r) = refused (number r)
 
 -- the outcome, the place that goes off, and the lent buffer then
 pub record Left : Type 0 where

@@ -1,20 +1,19 @@
 -- What the stand-in says: silence, or the code of the first step that applies.
-use Rattle.std.specs.Prelude.{Bool, cond, not, ◌&&◌, ◌||◌, List, ℕ, eqb}
+use Rattle.std.specs.Prelude.{Bool, cond, not, ◌&&◌, ◌||◌, List, ℕ, eqb, Option, Some, None}
 use Rattle.record.specs.declared.Module.{Module}
 use Rattle.table.specs.declared.Station.{Station}
 use Rattle.table.specs.Table.{is_on, has_fault, is_master, member_at, any_fault}
 use Rattle.command.specs.Command.{kind_of, terms_of}
 use Rattle.command.specs.Heard.{Words, number_of}
-use Rattle.standin.specs.declared.says.Said.{Said}
 
 -- nothing, or a return code
 pub data Speech : Type 0 where
   Silent : Speech
   Code : ℕ → Speech
 
-abbrev pub paper : Said → Speech
-paper Said.Silent = Silent
-paper (Said.Code code) = Code code
+abbrev pub paper : Option ℕ → Speech
+paper None = Silent
+paper (Some code) = Code code
 
 -- a line of the column: where the test holds, that is said, else what follows
 infixr 5 ◌says◌else◌

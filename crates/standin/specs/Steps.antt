@@ -1,7 +1,9 @@
--- Nobody has to believe this file: it has the words of the contracts of private functions. They are the column of `decide` in three parts, each given what is said where none of its lines applies.
-use Rattle.std.specs.Prelude.{Bool, not, ◌&&◌, ◌||◌, ℕ, eqb}
+-- Nobody has to believe this file: it has the words of the contracts of private functions. They are the column of `decide` in three parts, each given what is said where none of its lines applies, and a text that was written.
+use Rattle.std.specs.Prelude.{Bool, not, ◌&&◌, ◌||◌, List, ℕ, length, eqb}
+use Rattle.buffer.specs.Writing.{Left, leaves, wrote}
 use Rattle.frame.specs.declared.Header.{Header}
 use Rattle.command.specs.declared.Terms.{Terms}
+use Rattle.standin.specs.Answer.{written}
 use Rattle.standin.specs.Says.{Speech, Code, ◌says◌else◌, ◌silent_else◌, unheard}
 
 -- the silences, and steps 1 to 3
@@ -31,3 +33,7 @@ by_command group may own fault =
     (not group && not own) says 0x90 else
     fault says 0x91 else
     Code 0x00
+
+-- a text written to the front of a buffer
+abbrev pub filled : List ℕ → List ℕ → Left
+filled text out = leaves (wrote (length text)) (written text out)

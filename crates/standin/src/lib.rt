@@ -4,139 +4,142 @@
 
 mod says;
 
-ghost use Rattle.std.specs.Prelude.{◌≡◌, true, ◌++◌, ◌≤◌, length, drop};
-ghost use Rattle.buffer.specs.Writing.{wrote, leaves, Writes, paper as paper_written, length_written};
+ghost use Rattle.std.specs.Prelude.{◌≡◌, true, ◌≤◌, length};
+ghost use Rattle.buffer.specs.Writing.{Writes};
+ghost use Rattle.frame.specs.Frame.{encode};
 ghost use Rattle.table.specs.Table.{is_on, member_at, members};
 ghost use Rattle.table.specs.Rule.{keeps};
 ghost use Rattle.command.specs.Heard.{words_of};
-ghost use Rattle.standin.specs.Says.{Code, decide};
-ghost use Rattle.standin.specs.Answer.{info_by, off_for, says, answer, Answers};
+ghost use Rattle.standin.specs.Says.{decide};
+ghost use Rattle.standin.specs.Steps.{filled};
+ghost use Rattle.standin.specs.Answer.{info_by, info_for, reply_header, off_for, says, answer, Answers};
 
-use crate::says::Said;
-use buffer::Written;
+use alarm::AlarmInformation;
+use analog::AnalogValues;
 use command::{Heard, Kind};
+use fixed::{FirmwareVersion, ManagementLimits, SerialNumber, SystemParameters};
 use frame::Header;
+use groups::write_group;
+use parts::write::{write_flag_alone, write_flagged, write_unflagged};
 use refusal::Refusal;
+use table::rule::Ruled;
 use table::{Station, Table};
 
-// What the stand-in does: silence, a reply of so many bytes, or a refusal.
-#[derive(Clone, Copy)]
-pub enum Answered {
-    Silence,
-    Reply(usize),
-    Refused(Refusal),
-}
-
-// That, and the place of the record that goes off: the table's count, past every record, where none does.
+// What the stand-in does: silence, a reply of so many bytes, or a refusal; and the place of the record that goes off.
+// `off` stays a place, the table's count where none goes off: `off_for` and `off_at` of specs/Answer, and the theorems over them, name it so.
 #[derive(Clone, Copy)]
 pub struct Replied {
-    pub answered: Answered,
+    pub answered: Result<Option<usize>, Refusal>,
     pub off: usize,
 }
 
-// Writes the data of a command, for a member that is on.
-fn fill(info: &mut [u8], station: Station, table: Table, kind: Kind, adr: u8) -> Written
-    requires { (keeps table ≡ true) × (is_on (member_at adr (members table)) ≡ true) × (816 ≤ length info.old) }
-    ensures { Writes (leaves (wrote (length (info_by kind station (members table) adr))) (info_by kind station (members table) adr ++ drop (length (info_by kind station (members table) adr)) info.old)) result info.new }
+// Writes the data of a command, for a member that is on. The match over the kind stays: each kind's INFO has another type.
+#[tactic(auto, using(crate::proofs::Filled::fills))]
+fn fill(
+    info: &mut [u8],
+    station: Station,
+    ruled: &Ruled<'_>,
+    kind: Kind,
+    adr: u8,
+) -> Result<usize, Refusal>
+    requires on { is_on (member_at adr (members ruled.now.table.now)) ≡ true }
+    requires room { 816 ≤ length info.old }
+    ensures { Writes (filled (info_by kind station (members ruled.now.table.now) adr) info.old) result info.new }
 {
+    let table = *ruled.table;
     let member = table::member_at(table, adr);
     match kind {
-        Kind::Analog => analog::writer::write_analog(info, 0, member),
-        Kind::AnalogGroup => groups::write_analog_group(info, 0, table),
-        Kind::Alarm => alarm::writer::write_alarm(info, 0, member),
-        Kind::AlarmGroup => groups::write_alarm_group(info, 0, table),
-        Kind::Parameters => fixed::writer::write_parameters(info, 0, member),
-        Kind::Protocol => Written::Wrote(0),
-        Kind::Maker => {
-            let maker = station.maker;
-            Written::Wrote(buffer::put_all(info, 0, &maker))
-        }
-        Kind::Limits => fixed::writer::write_limits(info, member),
-        Kind::Serial => fixed::writer::write_serial(info, member),
-        Kind::TurnOff => Written::Wrote(0),
-        Kind::Version => fixed::writer::write_version(info, member),
-        Kind::Unserved => Written::Wrote(0),
+        Kind::Analog => write_flagged::<AnalogValues>(info, 0, adr, member.analog),
+        Kind::AnalogGroup => write_group::<AnalogValues>(info, 0, table),
+        Kind::Alarm => write_flagged::<AlarmInformation>(info, 0, adr, member.alarm),
+        Kind::AlarmGroup => write_group::<AlarmInformation>(info, 0, table),
+        Kind::Parameters => write_flag_alone::<SystemParameters>(info, 0, adr, member.parameters),
+        Kind::Maker => Ok(buffer::put_all(info, 0, &station.maker)),
+        Kind::Limits => write_unflagged::<ManagementLimits>(info, adr, member.limits),
+        Kind::Serial => write_unflagged::<SerialNumber>(info, adr, member.serial),
+        Kind::Version => write_unflagged::<FirmwareVersion>(info, adr, member.version),
+        Kind::Protocol | Kind::TurnOff | Kind::Unserved => Ok(0),
     }
 }
 
-// The place of the record that goes off: only an accepted 95H changes the table.
+// Writes a reply: with 00H the data of the command, with any other code no INFO.
+#[tactic(auto, using(crate::proofs::Replies::replies))]
+fn write_reply(
+    station: Station,
+    ruled: &Ruled<'_>,
+    heard: Heard,
+    code: u8,
+    out: &mut [u8],
+) -> Result<usize, Refusal>
+    requires on { is_on (member_at heard.header.adr (members ruled.now.table.now)) ≡ true }
+    requires room { 4112 ≤ length out.old }
+    ensures { Writes (filled (encode (reply_header station (words_of heard) code) (info_for station (members ruled.now.table.now) (words_of heard) code)) out.old) result out.new }
+{
+    let asked = heard.header;
+    let header = Header {
+        ver: station.ver,
+        adr: asked.adr,
+        cid1: 0x46,
+        cid2: code,
+    };
+    if code != 0 {
+        return frame::write(header, &[], out);
+    }
+    let kind = command::form_of(asked.cid2, heard.command);
+    let mut info = [0u8; 816];
+    let length = fill(&mut info, station, ruled, kind, asked.adr)?;
+    frame::write(header, &info[..length], out)
+}
+
+// The place of the record that goes off, the table's count where none does (see `Replied`), where a member that is on was asked: only an accepted
+// 95H changes the table.
+#[tactic(auto, using(crate::proofs::Members::places), unfolding(crate::specs::Answer::off_for))]
 fn goes_off(table: Table, heard: Heard, code: u8) -> usize
+    requires { is_on (member_at heard.header.adr (members table)) ≡ true }
     ensures { result ≡ off_for table.count (members table) (words_of heard) code }
 {
     let asked = heard.header;
-    let accepted = (code == 0) & (asked.cid2 == 0x95);
-    if accepted {
-        return table::place_of(table, asked.adr);
+    if code == 0 && asked.cid2 == 0x95 {
+        return table::place_of(table, asked.adr).unwrap_or(table.count);
     }
     table.count
 }
 
-fn length_of(written: Written) -> usize
-    ensures { result ≡ length_written (paper_written written) }
+// Silence or a reply, where neither the buffer nor the table is refused.
+#[tactic(auto, using(crate::proofs::Replies::said), unfolding(crate::specs::Answer::says))]
+fn speak(station: Station, ruled: &Ruled<'_>, heard: Heard, out: &mut [u8]) -> Replied
+    requires room { 4112 ≤ length out.old }
+    ensures { Answers (says ruled.now.table.now.count station (members ruled.now.table.now) (words_of heard) (decide station (members ruled.now.table.now) (words_of heard)) out.old) result out.new }
 {
-    match written {
-        Written::Wrote(n) => n,
-        Written::Refused(_) => 0,
-    }
-}
-
-// Writes the reply with a code.
-fn reply(station: Station, table: Table, heard: Heard, code: u8, out: &mut [u8]) -> Replied
-    requires { (keeps table ≡ true) × (decide station (members table) (words_of heard) ≡ Code code) × (4112 ≤ length out.old) }
-    ensures { Answers (says table.count station (members table) (words_of heard) (Code code) out.old) result out.new }
-{
-    let asked = heard.header;
-    let adr = asked.adr;
-    let header = Header {
-        ver: station.ver,
-        adr,
-        cid1: 0x46,
-        cid2: code,
-    };
-    let off = goes_off(table, heard, code);
-    let mut info = [0u8; 816];
-    if code != 0 {
-        let refused = frame::write(header, &info[..0], out);
-        return Replied {
-            answered: Answered::Reply(length_of(refused)),
-            off,
-        };
-    }
-    let kind = command::form_of(asked.cid2, heard.command);
-    let filled = fill(&mut info, station, table, kind, adr);
-    let n = length_of(filled);
-    let written = frame::write(header, &info[..n], out);
-    Replied {
-        answered: Answered::Reply(length_of(written)),
-        off,
+    let table = *ruled.table;
+    match crate::says::decide(station, table, heard) {
+        None => Replied {
+            answered: Ok(None),
+            off: table.count,
+        },
+        Some(code) => Replied {
+            answered: write_reply(station, ruled, heard, code, out).map(Some),
+            off: goes_off(table, heard, code),
+        },
     }
 }
 
 // The answer to a stretch, the bytes between SOI and CR: 32 for a buffer below 4,112 bytes, 31, then silence or a reply.
-#[tactic(auto, using(crate::proofs::Replies::too_short))]
+#[tactic(auto, unfolding(crate::specs::Answer::answer))]
 pub fn answer(station: Station, table: Table, stretch: &[u8], out: &mut [u8]) -> Replied
     ensures { Answers (answer (keeps table) table.count station (members table) stretch.now out.old) result out.new }
 {
-    let none = table.count;
     if out.len() < 4112 {
         return Replied {
-            answered: Answered::Refused(Refusal::BufferTooShort),
-            off: none,
+            answered: Err(Refusal::BufferTooShort),
+            off: table.count,
         };
     }
-    if !table::rule::keeps_rule(table) {
-        return Replied {
-            answered: Answered::Refused(Refusal::TableBreaksRule),
-            off: none,
-        };
-    }
-    let heard = command::hear(stretch);
-    let said = crate::says::decide(station, table, heard);
-    match said {
-        Said::Silent => Replied {
-            answered: Answered::Silence,
-            off: none,
+    match Ruled::judge(&table) {
+        Ok(ruled) => speak(station, &ruled, command::hear(stretch), out),
+        Err(refusal) => Replied {
+            answered: Err(refusal),
+            off: table.count,
         },
-        Said::Code(code) => reply(station, table, heard, code, out),
     }
 }

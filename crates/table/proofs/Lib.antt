@@ -1,2 +1,3 @@
 pub mod Twelve
 pub mod Members
+pub mod Asked

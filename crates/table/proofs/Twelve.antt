@@ -1,7 +1,5 @@
 -- A table by value has twelve places for records, whatever its count is.
-use mathlib.Core.Path.{◌≡◌}
-use mathlib.Core.List.{List}
-use lib.ListN.{length}
+use Rattle.std.proofs.Common.{◌≡◌, List, length}
 use mir.Val.{Val}
 use denote.Laws.{Is}
 use denote.Struct.Laws as laws

@@ -1,5 +1,5 @@
 -- What a reply replaces: the named fields of the asked record only; with FFH, of each member that is on, in rising ADR.
-use Rattle.std.specs.Prelude.{◌≡◌, Bool, cond, ◌&&◌, List, [], ◌∷◌, ℕ, set, drop}
+use Rattle.std.specs.Prelude.{◌≡◌, cond, List, [], ◌∷◌, ℕ, set, drop}
 use Rattle.record.specs.declared.Module.{Module}
 use Rattle.record.specs.declared.Analog.{Analog}
 use Rattle.record.specs.declared.Alarm.{Alarm}
@@ -37,10 +37,6 @@ stored adr m ms = set ms (place_of adr ms) m
 -- the record with an ADR changed
 unfoldable pub replaced : ℕ → (Module → Module) → List Module → List Module
 replaced adr f ms = stored adr (f (member_at adr ms)) ms
-
--- a member that is on takes a value where one is given
-abbrev pub fitted : {A : Type 0} → (A → Module → Module) → Module → Bool → A → Module
-fitted f m given a = cond (is_on m && given) (f a m) m
 
 -- values dealt out to the members that are on, in order; a member without a value stays
 unfoldable pub dealt : {A : Type 0} → (A → Module → Module) → List Module → List A → List Module

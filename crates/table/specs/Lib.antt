@@ -1,3 +1,4 @@
 pub mod Table
 pub mod Rule
 pub mod Changes
+pub mod Laws

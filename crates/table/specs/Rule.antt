@@ -18,10 +18,14 @@ encodable m = (analog.ok m.analog && alarm.ok m.alarm) && (limits.ok m.limits &&
 unfoldable pub fine : Module → Bool
 fine m = (is_address m.adr && (leb m.on 1 && leb m.link_fault 1)) && encodable m
 
+-- a record that may stand after an ADR, in a table of group m
+abbrev pub follows : ℕ → ℕ → Module → Bool
+follows m last x = (fine x && ltb last x.adr) && eqb (x.adr / 16) m
+
 -- rising from an ADR on, each record fine, and all with one m
 unfoldable pub rising : ℕ → ℕ → List Module → Bool
 rising m last [] = true
-rising m last (x ∷ xs) = ((fine x && ltb last x.adr) && eqb (x.adr / 16) m) && rising m x.adr xs
+rising m last (x ∷ xs) = follows m last x && rising m x.adr xs
 
 unfoldable pub rule : List Module → Bool
 rule ms = (leb 1 (length ms) && leb (length ms) 12) && rising ((get_or ms 0 blank).adr / 16) 0 ms

@@ -1,5 +1,5 @@
 -- The table's records as a list, and what is asked of it: members, the master, who is on.
-use Rattle.std.specs.Prelude.{Bool, true, false, cond, ◌&&◌, ◌||◌, List, [], ◌∷◌, ℕ, suc, ◌+◌, ◌/◌, ◌%◌, length, get_or, take, leb, ltb, eqb, pos}
+use Rattle.std.specs.Prelude.{Bool, true, false, cond, ◌&&◌, ◌||◌, List, [], ◌∷◌, ℕ, suc, ◌+◌, ◌/◌, ◌%◌, length, get_or, take, leb, ltb, eqb, pos, Option, Some, None}
 use Rattle.record.specs.declared.Module.{Module}
 use Rattle.record.specs.Analog.{to_analog}
 use Rattle.record.specs.Alarm.{to_alarm}
@@ -53,6 +53,10 @@ new_module adr = record {
 unfoldable pub place_of : ℕ → List Module → ℕ
 place_of adr [] = 0
 place_of adr (m ∷ ms) = cond (eqb m.adr adr) 0 (suc (place_of adr ms))
+
+-- that place, where there is such a record
+abbrev pub place_found : ℕ → List Module → Option ℕ
+place_found adr ms = cond (ltb (place_of adr ms) (length ms)) (Some (place_of adr ms)) None
 
 unfoldable pub has_member : ℕ → List Module → Bool
 has_member adr ms = ltb (place_of adr ms) (length ms)

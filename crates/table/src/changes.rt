@@ -1,135 +1,56 @@
-// How a reply changes the table's records: the named part of the asked record, or that part of each member that is on.
+// How a reply changes the table's records: one part of the asked record, or that part of each member that is on.
 
-ghost use Rattle.std.specs.Prelude.{◌≡◌, take};
+ghost use Rattle.std.specs.Prelude.{◌≡◌, List, ◌∷◌};
+ghost use Rattle.std.specs.Slice.Iter.{iter_rest};
 ghost use Rattle.table.specs.Table.{members};
-ghost use Rattle.table.specs.Changes.{stored, replaced, fitted, dealt, with_analog, with_alarm, with_limits, with_serial, with_version, with_parameters, TableIs};
+ghost use Rattle.table.specs.Changes.{replaced, dealt, TableIs};
 
 use crate::Table;
-use record::{Alarm, Analog, Limits, Module, Parameters};
+use crate::part::Part;
+use record::Module;
+use std::slice::Iter;
 
-// A record put in the place of the one with an ADR; where there is none, the table as it is.
-fn placed(table: Table, adr: u8, member: Module) -> Table
-    ensures { TableIs table (stored adr member (members table)) result }
+// The part of the record with an ADR, replaced; where there is none, the table as it is.
+#[tactic(auto, using(crate::proofs::changes::Storing::not_there))]
+pub fn replace<P: Part>(table: Table, adr: u8, value: P::Value) -> Table
+    ensures { TableIs table (replaced adr (P.with value) (members table)) result }
 {
-    let place = crate::place_of(table, adr);
-    if crate::has_member(table, adr) {
-        let mut next = table;
-        next.modules[place] = member;
-        return next;
+    let mut modules = table.modules;
+    if let Some(place) = crate::place_of(table, adr) {
+        P::put_in(&mut modules[place], value);
     }
-    table
+    Table { modules, ..table }
 }
 
-// The analog of the record with an ADR, replaced.
-pub fn with_analog(table: Table, adr: u8, analog: Analog) -> Table
-    ensures { TableIs table (replaced adr (with_analog analog) (members table)) result }
+// A member that is on takes the next value, where one is left.
+#[tactic(auto, using(crate::proofs::changes::Dealing::served))]
+fn serve<P: Part>(member: &mut Module, left: &mut Iter<'_, P::Value>)
+    ensures { (ms : List _) → dealt P.with (member.old ∷ ms) (iter_rest left.old) ≡ member.new ∷ dealt P.with ms (iter_rest left.new) }
 {
-    let mut member = crate::member_at(table, adr);
-    member.analog = analog;
-    placed(table, adr, member)
-}
-
-// The alarm of the record with an ADR, replaced.
-pub fn with_alarm(table: Table, adr: u8, alarm: Alarm) -> Table
-    ensures { TableIs table (replaced adr (with_alarm alarm) (members table)) result }
-{
-    let mut member = crate::member_at(table, adr);
-    member.alarm = alarm;
-    placed(table, adr, member)
-}
-
-// The limits of the record with an ADR, replaced.
-pub fn with_limits(table: Table, adr: u8, limits: Limits) -> Table
-    ensures { TableIs table (replaced adr (with_limits limits) (members table)) result }
-{
-    let mut member = crate::member_at(table, adr);
-    member.limits = limits;
-    placed(table, adr, member)
-}
-
-// The serial of the record with an ADR, replaced.
-pub fn with_serial(table: Table, adr: u8, serial: [u8; 16]) -> Table
-    ensures { TableIs table (replaced adr (with_serial serial) (members table)) result }
-{
-    let mut member = crate::member_at(table, adr);
-    member.serial = serial;
-    placed(table, adr, member)
-}
-
-// The version of the record with an ADR, replaced.
-pub fn with_version(table: Table, adr: u8, version: [u8; 5]) -> Table
-    ensures { TableIs table (replaced adr (with_version version) (members table)) result }
-{
-    let mut member = crate::member_at(table, adr);
-    member.version = version;
-    placed(table, adr, member)
-}
-
-// The parameters of the record with an ADR, replaced.
-pub fn with_parameters(table: Table, adr: u8, parameters: Parameters) -> Table
-    ensures { TableIs table (replaced adr (with_parameters parameters) (members table)) result }
-{
-    let mut member = crate::member_at(table, adr);
-    member.parameters = parameters;
-    placed(table, adr, member)
-}
-
-fn fit_analog(member: Module, given: bool, analog: Analog) -> Module
-    ensures { result ≡ fitted with_analog member given analog }
-{
-    if (member.on == 1) & given {
-        let mut next = member;
-        next.analog = analog;
-        return next;
+    if member.on == 1 {
+        if let Some(value) = left.next() {
+            P::put_in(member, *value);
+        }
     }
-    member
 }
 
-// The first `count` analog values, dealt out to the members that are on.
-pub fn deal_analogs(table: Table, count: usize, analogs: [Analog; 12]) -> Table
-    ensures { TableIs table (dealt with_analog (members table) (take count analogs)) result }
+// Values dealt out to the members that are on, in order; a member without a value stays.
+#[tactic(auto, using(crate::proofs::changes::Dealing::dealing_all))]
+fn deal_out<P: Part>(members: &mut [Module], values: &[P::Value])
+    ensures { members.new ≡ dealt P.with members.old values.now }
 {
-    let n = crate::size(table);
-    let mut next = table;
-    let mut i: usize = 0;
-    let mut analog_at: usize = 0;
-    while i < n {
-        let member = next.modules[i];
-        let analog = analogs[analog_at];
-        let fit = fit_analog(member, analog_at < count, analog);
-        next.modules[i] = fit;
-        analog_at += crate::one_if(member.on == 1);
-        i += 1;
+    let mut left = values.iter();
+    for member in members {
+        serve::<P>(member, &mut left);
     }
-    next
 }
 
-fn fit_alarm(member: Module, given: bool, alarm: Alarm) -> Module
-    ensures { result ≡ fitted with_alarm member given alarm }
+// Values dealt out to the table's members.
+pub fn deal<P: Part>(table: Table, values: &[P::Value]) -> Table
+    ensures { TableIs table (dealt P.with (members table) values.now) result }
 {
-    if (member.on == 1) & given {
-        let mut next = member;
-        next.alarm = alarm;
-        return next;
-    }
-    member
-}
-
-// The first `count` alarm values, dealt out to the members that are on.
-pub fn deal_alarms(table: Table, count: usize, alarms: [Alarm; 12]) -> Table
-    ensures { TableIs table (dealt with_alarm (members table) (take count alarms)) result }
-{
-    let n = crate::size(table);
-    let mut next = table;
-    let mut i: usize = 0;
-    let mut alarm_at: usize = 0;
-    while i < n {
-        let member = next.modules[i];
-        let alarm = alarms[alarm_at];
-        let fit = fit_alarm(member, alarm_at < count, alarm);
-        next.modules[i] = fit;
-        alarm_at += crate::one_if(member.on == 1);
-        i += 1;
-    }
-    next
+    let mut modules = table.modules;
+    let count = table.members().len();
+    deal_out::<P>(&mut modules[..count], values);
+    Table { modules, ..table }
 }

@@ -3,14 +3,15 @@
 #![tactic(auto)]
 
 pub mod changes;
+pub mod part;
 pub mod rule;
 
-ghost use Rattle.std.specs.Prelude.{◌≡◌, length};
-ghost use Rattle.table.specs.Table.{blank, new_module, members, place_of, has_member, member_at, any_fault, count_on, one_if, is_master};
+ghost use Rattle.std.specs.Prelude.{◌≡◌, ◌<◌, ◌≤◌, length, IfSome};
+ghost use Rattle.table.specs.Table.{blank, new_module, members, place_found, has_member, member_at, any_fault, count_on, is_master};
 
 use record::Module;
 
-// The records that are there are the first `count`.
+// The records that are there are the first `count`: twelve places, since the project keeps nothing on a heap.
 #[derive(Clone, Copy)]
 pub struct Table {
     pub count: usize,
@@ -55,101 +56,77 @@ pub fn new_module(adr: u8) -> Module
     Module {
         adr,
         on: 1,
-        link_fault: 0,
         analog,
         alarm,
-        limits: record::zero_limits(),
-        serial: [0; 16],
-        version: [0; 5],
-        parameters: record::zero_parameters(),
+        ..blank_module()
     }
 }
 
-// How many records there are; a count above twelve has twelve.
-fn size(table: Table) -> usize
-    ensures { result ≡ length (members table) }
-{
-    let count = table.count;
-    let full = 12 < count;
-    if full {
-        return 12;
+impl Table {
+    // The records that are there; a count above twelve has twelve.
+    #[tactic(auto, using(std::proofs::lemmas::List::take_min), unfolding(crate::specs::Table::members))]
+    pub fn members(&self) -> &[Module]
+        ensures value { result.now ≡ members self.now }
+        ensures few { length result.now ≤ 12 }
+    {
+        let all = self.modules.as_slice();
+        &all[..self.count.min(all.len())]
     }
-    count
 }
 
-// The place of the member with an ADR, or how many there are.
-pub fn place_of(table: Table, adr: u8) -> usize
-    ensures { result ≡ place_of adr (members table) }
+// The place of the member with an ADR.
+pub fn place_of(table: Table, adr: u8) -> Option<usize>
+    ensures value { result ≡ place_found adr (members table) }
+    ensures within { IfSome result (λ place. place < 12) }
 {
-    let n = size(table);
-    let mut i: usize = 0;
-    while i < n {
-        let member = table.modules[i];
-        if member.adr == adr {
-            return i;
-        }
-        i += 1;
-    }
-    i
+    table.members().iter().position(|member| member.adr == adr)
 }
 
 // Whether a member has an ADR.
+#[tactic(auto, unfolding(crate::specs::Table::has_member))]
 pub fn has_member(table: Table, adr: u8) -> bool
     ensures { result ≡ has_member adr (members table) }
 {
-    place_of(table, adr) < size(table)
+    place_of(table, adr).is_some()
 }
 
-// The member with an ADR, or the blank record, which is off.
+// The member with an ADR, or the blank record, which is off: the theorems say of a table without the ADR what they say of that record, so no Option.
+#[tactic(auto, using(crate::proofs::Asked::places))]
 pub fn member_at(table: Table, adr: u8) -> Module
     ensures { result ≡ member_at adr (members table) }
 {
-    let place = place_of(table, adr);
-    if place < size(table) {
-        return table.modules[place];
+    match place_of(table, adr) {
+        Some(place) => table.members()[place],
+        None => blank_module(),
     }
-    blank_module()
 }
 
 // Whether a member that is on has a link fault.
 pub fn any_fault(table: Table) -> bool
     ensures { result ≡ any_fault (members table) }
 {
-    let n = size(table);
-    let mut any = false;
-    let mut i: usize = 0;
-    while i < n {
-        let member = table.modules[i];
-        any = any | ((member.on == 1) & (member.link_fault == 1));
-        i += 1;
-    }
-    any
-}
-
-fn one_if(on: bool) -> usize
-    ensures { result ≡ one_if on }
-{
-    if on { 1 } else { 0 }
+    table
+        .members()
+        .iter()
+        .any(|member| member.on == 1 && member.link_fault == 1)
 }
 
 // How many members are on.
+#[tactic(auto, using(crate::proofs::Asked::counted))]
 pub fn count_on(table: Table) -> usize
     ensures { result ≡ count_on (members table) }
 {
-    let n = size(table);
-    let mut on: usize = 0;
-    let mut i: usize = 0;
-    while i < n {
-        let member = table.modules[i];
-        on += one_if(member.on == 1);
-        i += 1;
+    let mut on = 0;
+    for member in table.members() {
+        on += usize::from(member.on == 1);
     }
     on
 }
 
 // Whether an address is that of a master battery.
+#[tactic(auto, unfolding(crate::specs::Table::is_master))]
 pub fn is_master(adr: u8) -> bool
     ensures { result ≡ is_master adr }
 {
-    (adr % 16 == 2) & (adr / 16 <= 7)
+    adr % 16 == 2 && adr / 16 <= 7
 }

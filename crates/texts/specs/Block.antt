@@ -4,6 +4,7 @@ use Rattle.hex_chars.specs.Hex.{pair_of}
 use Rattle.frame.specs.declared.Header.{Header}
 use Rattle.frame.specs.Frame.{info_at}
 use Rattle.frame.specs.Judge.{Told, nothing, frame, refused, refused_at}
+use Rattle.texts.specs.declared.Characters.{Characters}
 use Rattle.texts.specs.Text.{AT, VER, ADR, CID1, CID2, INFO, REFUSED, PLACE, FRAMES, REFUSALS, decimal, line}
 
 -- a frame: the offset of its SOI, its four bytes, and the characters of INFO; or a refusal: the offset of the SOI that opened the stretch, and the number, and a character's place where it has one
@@ -16,6 +17,10 @@ pub data Block : Type 0 where
 unfoldable pub six_lines : ℕ → List ℕ → List ℕ → List ℕ → List ℕ → List ℕ → List ℕ
 six_lines at ver adr cid1 cid2 info =
     line AT (decimal at) ++ line VER ver ++ line ADR adr ++ line CID1 cid1 ++ line CID2 cid2 ++ line INFO info
+
+-- the same of characters that are lent
+abbrev pub said_lines : ℕ → Characters → List ℕ
+said_lines at c = six_lines at c.ver.now c.adr.now c.cid1.now c.cid2.now c.info.now
 
 unfoldable pub frame_lines : ℕ → Header → List ℕ → List ℕ
 frame_lines at h info = six_lines at (pair_of h.ver) (pair_of h.adr) (pair_of h.cid1) (pair_of h.cid2) info

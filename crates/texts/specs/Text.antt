@@ -1,5 +1,5 @@
 -- The listing's texts: the keys, a number in decimal, and a line.
-use Rattle.std.specs.Prelude.{cond, List, [], ◌∷◌, ◌++◌, ℕ, zero, suc, ◌+◌, ◌-◌, ◌*◌, ◌/◌, ◌%◌, ltb}
+use Rattle.std.specs.Prelude.{if◌then◌else◌, List, [], ◌∷◌, ◌++◌, ℕ, zero, suc, ◌+◌, ◌-◌, ◌*◌, ◌/◌, ◌%◌, nat_lt}
 use Prim.Native.Char.{code}
 use Rattle.buffer.specs.Text.{ascii}
 
@@ -43,7 +43,7 @@ digit d = code "0" + d
 -- in decimal, with no zero in front: a digit, or what n / 10 is in decimal and then the digit n % 10; most is enough digits
 unfoldable pub decimal_in : ℕ → ℕ → List ℕ
 decimal_in zero n = []
-decimal_in (suc most) n = cond (ltb n 10) (digit n ∷ []) (decimal_in most (n / 10) ++ (digit (n % 10) ∷ []))
+decimal_in (suc most) n = if nat_lt n 10 then digit n ∷ [] else (decimal_in most (n / 10) ++ digit (n % 10) ∷ [])
 
 unfoldable pub decimal : ℕ → List ℕ
 decimal n = decimal_in (suc n) n
@@ -59,7 +59,7 @@ value cs = value_from 0 cs
 -- the last k digits of n
 unfoldable pub digits : ℕ → ℕ → List ℕ
 digits zero n = []
-digits (suc k) n = digits k (n / 10) ++ (digit (n % 10) ∷ [])
+digits (suc k) n = digits k (n / 10) ++ digit (n % 10) ∷ []
 
 -- ---- lines
 

@@ -1,10 +1,7 @@
--- The loop's invariant: i bytes of the text have been copied.
-use Rattle.std.proofs.Common.{◌≡◌, ◌-◌, ◌≤◌, length}
-use lib.Seq.{paste}
+-- Before each turn the bytes so far have been copied.
+use Rattle.std.proofs.Common.{◌≡◌}
+use Rattle.std.proofs.Math.Seq.{paste}
 use Rattle.buffer.proofs.put_all.Given as goal
 
 abbrev pub invariant-loop-i : goal.invariant-loop-i
-invariant-loop-i l = (l.i ≤ length l.text) × (l.out ≡ paste l.initial.out l.at l.text l.i)
-
-abbrev pub decreases-loop-i : goal.decreases-loop-i
-decreases-loop-i l = length l.text - l.i
+invariant-loop-i l = l.out ≡ paste l.initial.out l.at l.text l.i

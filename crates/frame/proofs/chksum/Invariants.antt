@@ -1,10 +1,6 @@
--- What was added and what is left make the sum of all, block by block.
-use Rattle.std.proofs.Common.{◌≡◌, ◌+◌, ◌-◌, ◌%◌, ◌≤◌, length, drop}
-use Rattle.frame.specs.Frame.{sum}
+-- What was added is the sum of what fills no block, and of the blocks so far.
+use Rattle.std.proofs.Common.{◌≡◌, ◌+◌, ◌*◌, ◌/◌, ◌%◌, length, take, drop, sum}
 use Rattle.frame.proofs.chksum.Given as goal
 
-abbrev pub invariant-loop-i : goal.invariant-loop-i
-invariant-loop-i l = (l.i ≤ length l.characters) × ((l.total + sum (drop l.i l.characters)) % 65536 ≡ sum l.characters % 65536)
-
-abbrev pub decreases-loop-i : goal.decreases-loop-i
-decreases-loop-i l = length l.characters - l.i
+abbrev pub invariant-loop-block : goal.invariant-loop-block
+invariant-loop-block l = l.total ≡ (sum (drop (length l.characters / 64 * 64) l.characters) + sum (take (64 * l.block-index) l.characters)) % 65536

@@ -5,12 +5,6 @@ use Rattle.hex_chars.proofs.Laws.{length-hexes}
 use Rattle.hex_chars.specs.Hex.{word}
 use Rattle.frame.proofs.put_tail.Goals as goal
 
-pub put_word-last-requires : goal.put_word-last-requires
-put_word-last-requires c = record { fits = omega (arith, length-hexes (word c.chksum-check.result)) }
-
-pub put-requires : goal.put-requires
-put-requires c = record { fits = omega (arith, length-hexes (word c.chksum-check.result)) }
-
 pub returns : goal.returns
 returns c =
     rw (← c.chksum-check.ensures) (put_then (record { fits = omega (arith, length-hexes (word c.chksum-check.result)) }) c.put_word-last.ensures c.put.ensures)

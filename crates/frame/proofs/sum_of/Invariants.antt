@@ -1,10 +1,6 @@
--- What was added and what is left make the sum of all.
-use Rattle.std.proofs.Common.{◌≡◌, ◌+◌, ◌-◌, ◌%◌, ◌<◌, ◌≤◌, length, drop}
-use Rattle.frame.specs.Frame.{sum}
+-- What was added is the sum of what was seen.
+use Rattle.std.proofs.Common.{◌≡◌, ◌%◌, take, sum}
 use Rattle.frame.proofs.sum_of.Given as goal
 
-abbrev pub invariant-loop-i : goal.invariant-loop-i
-invariant-loop-i l = (l.i ≤ length l.characters) × (l.total < 65536) × ((l.total + sum (drop l.i l.characters)) % 65536 ≡ sum l.characters % 65536)
-
-abbrev pub decreases-loop-i : goal.decreases-loop-i
-decreases-loop-i l = length l.characters - l.i
+abbrev pub invariant-loop-c : goal.invariant-loop-c
+invariant-loop-c l = l.total ≡ sum (take l.c-index l.characters) % 65536

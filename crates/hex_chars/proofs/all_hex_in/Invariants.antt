@@ -1,10 +1,7 @@
--- What was seen and what is left decide together: no distance in all that was seen, and hex in what is left.
-use Rattle.std.proofs.Common.{◌≡◌, ◌-◌, ◌≤◌, ◌&&◌, eqb, length, drop}
+-- No distance in what was seen: all of it is hex.
+use Rattle.std.proofs.Common.{◌≡◌, ◌==◌, take}
 use Rattle.hex_chars.specs.Hex.{all_hex}
 use Rattle.hex_chars.proofs.all_hex_in.Given as goal
 
-abbrev pub invariant-loop-i : goal.invariant-loop-i
-invariant-loop-i l = (l.i ≤ length l.s) × ((eqb l.far 0 && all_hex (drop l.i l.s)) ≡ all_hex l.s)
-
-abbrev pub decreases-loop-i : goal.decreases-loop-i
-decreases-loop-i l = length l.s - l.i
+abbrev pub invariant-loop-c : goal.invariant-loop-c
+invariant-loop-c l = (l.far == 0) ≡ all_hex (take l.c-index l.s)

@@ -1,6 +1,6 @@
--- The totals lie within the buffer, and are put there where nothing failed.
+-- The totals lie within the buffer.
 use Rattle.listing.proofs.Parts.{closes-inside}
 use Rattle.list.proofs.close.Goals as goal
 
-pub write_text-written-requires : goal.write_text-written-requires
-write_text-written-requires g c = closes-inside c.args.turn.next c.args.out.now c.close-text.result c.close-text.new.out c.close-text.ensures
+pub write_text-requires : goal.write_text-requires
+write_text-requires g c = closes-inside c.in_ok-turn.turn.next c.args.out.now c.close-written.result c.close-written.new.out c.close-written.ensures

@@ -1,10 +1,10 @@
--- Calls of `list` took the bytes up to the place, and each turn moves it.
-use Rattle.std.proofs.Common.{◌≤◌, ◌-◌, length, drop}
+-- Calls of `list` took the bytes before the rest.
+use Rattle.std.proofs.Common.{length}
 use Rattle.list.specs.List.{Over}
 use Rattle.list.proofs.list_piece.Given as goal
 
-abbrev pub invariant-loop-i : goal.invariant-loop-i
-invariant-loop-i g l = (l.i ≤ length l.piece) × Over l.l l.initial.store l.piece l.now l.store (drop l.i l.piece)
+abbrev pub invariant-loop-rest : goal.invariant-loop-rest
+invariant-loop-rest g l = Over l.fn.l l.initial.store l.piece l.now l.store l.rest
 
-abbrev pub decreases-loop-i : goal.decreases-loop-i
-decreases-loop-i g l = length l.piece - l.i
+abbrev pub decreases-loop-rest : goal.decreases-loop-rest
+decreases-loop-rest g l = length l.rest

@@ -1,43 +1,35 @@
 -- One record stored at its place is that member replaced; where there is no such member nothing is.
-use mathlib.Core.Path.{◌≡◌, refl, sym, ap, ◌∙◌, subst}
-use mathlib.Core.Bool.{true, false}
-use mathlib.Core.List.{List}
-use Prim.Native.Nat.{ℕ, ◌<◌}
-use native.Mathlib.Omega.{arith}
-use lib.ListN.{length, set}
-use lib.Seq.{take-set-lt, drop-set-lt, set_out}
-use borrow.Author.Tests.{ltb-true, ltb-false}
+use Rattle.std.proofs.Common.{◌≡◌, refl, sym, ap, ◌∙◌, ℕ, ◌<◌, set, get_or, Some, None, arith}
+use Rattle.std.proofs.lemmas.List.{get_or_default, get_or-take, length-take, drop-set-lt}
+use Rattle.std.proofs.Math.Seq.{take-set-lt, set_out}
 use Rattle.record.specs.declared.Module.{Module}
 use Rattle.table.specs.declared.Table.{Table}
-use Rattle.table.specs.Table.{members, place_of, has_member, member_at}
-use Rattle.table.proofs.Members.{few-members}
-use Rattle.table.specs.Changes.{stored, replaced, TableIs}
+use Rattle.table.specs.Table.{blank, members, place_of, place_found, member_at}
+use Rattle.table.specs.Changes.{replaced, TableIs}
+use Rattle.table.proofs.Asked.{found_at, none_at}
 
-pub in_range : (adr : ℕ) (ms : List Module) (i : ℕ) → i ≡ place_of adr ms → has_member adr ms ≡ true → i < length ms
-unfolding has_member
-in_range adr ms i e h = omega (arith, ltb-true (place_of adr ms) (length ms) h)
-
-module _ (t : Table) (adr : ℕ) (m : Module) where
-  pub there : (i : ℕ) → i ≡ place_of adr (members t) → has_member adr (members t) ≡ true
-      → TableIs t (stored adr m (members t)) (record { count = t.count; modules = set t.modules i m })
-  unfolding members
-  there i e h =
-      let l = in_range adr (members t) i e h in
+module _ (t : Table) (adr : ℕ) (f : Module → Module) where
+  -- there is such a member
+  pub there : (place : ℕ) (m d : Module) → Some place ≡ place_found adr (members t) → m ≡ f (get_or t.modules place d)
+      → TableIs t (replaced adr f (members t)) (record { count = t.count; modules = set t.modules place m })
+  unfolding members replaced member_at
+  there place m d e em =
+      let found = found_at adr (members t) _ place refl e in
+      let few : place < t.count = omega (arith, found.0, length-take t.count t.modules) in
+      let here : get_or t.modules place d ≡ get_or (members t) place blank = sym (get_or-take t.count t.modules place d few) ∙ get_or_default (members t) place d blank found.0 in
       record {
-        kept = (refl, drop-set-lt t.count t.modules i m (omega (arith, few-members t)));
-        members_are = take-set-lt t.count t.modules i m (omega (arith, few-members t)) ∙ ap (λ (k : ℕ). set (members t) k m) e;
+        kept = (refl, drop-set-lt t.count t.modules place m few);
+        members_are =
+            take-set-lt t.count t.modules place m few
+            ∙ ap (λ (x : Module). set (members t) place x) (em ∙ ap f here)
+            ∙ ap (λ (k : ℕ). set (members t) k (f (get_or (members t) k blank))) found.1;
       }
 
-  pub not_there : has_member adr (members t) ≡ false → TableIs t (stored adr m (members t)) t
-  unfolding has_member
-  not_there h =
+  -- there is none
+  pub not_there : None ≡ place_found adr (members t) → TableIs t (replaced adr f (members t)) t
+  unfolding replaced
+  not_there e =
       record {
         kept = (refl, refl);
-        members_are = sym (set_out (members t) (place_of adr (members t)) m (ltb-false (place_of adr (members t)) (length (members t)) h));
+        members_are = sym (set_out (members t) (place_of adr (members t)) (f (member_at adr (members t))) (none_at adr (members t) _ refl e));
       }
-
--- the member read, changed and stored
-pub as-replaced : (t : Table) (adr : ℕ) (f : Module → Module) (m : Module) → m ≡ member_at adr (members t) → (r : Table) → TableIs t (stored adr (f m) (members t)) r
-    → TableIs t (replaced adr f (members t)) r
-unfolding replaced
-as-replaced t adr f m e r p = subst (λ (x : Module). TableIs t (stored adr (f x) (members t)) r) e p

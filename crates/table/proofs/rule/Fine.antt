@@ -1,14 +1,6 @@
--- What the rule says of each record.
-use mathlib.Core.Path.{◌≡◌, sym, subst}
-use mathlib.Core.Bool.{Bool, true, ◌&&◌}
-use mathlib.Core.List.{List, [], ◌∷◌}
-use Prim.Native.Nat.{ℕ, zero, suc, ◌/◌, ◌≤◌, ◌<◌}
-use native.Mathlib.Nat.{not-suc-le-zero, le_of_suc-le-suc}
-use native.Mathlib.Omega.{arith}
-use lib.ListN.{length, get_or}
-use lib.Dec.{T, leb, ltb, eqb}
-use mir.Facts.{and_yes}
-use borrow.Author.Tests.{leb-true}
+-- What the rule says of each record: a true test is both its parts true, all the way down the rule.
+use Rattle.std.proofs.Common.{◌≡◌, Bool, true, ◌&&◌, List, [], ◌∷◌, ℕ, zero, suc, ◌/◌, ◌<◌, ◌≤◌, length, get_or, leb, ltb, eqb, arith}
+use Rattle.std.proofs.lemmas.Bool.{leb-true}
 use Rattle.record.specs.declared.Module.{Module}
 use Rattle.record.specs.Address.{is_address}
 use Rattle.record.specs.Analog.{analog}
@@ -18,13 +10,12 @@ use Rattle.record.specs.Parameters.{parameters}
 use Rattle.record.specs.Texts.{serial, version}
 use Rattle.table.specs.declared.Table.{Table}
 use Rattle.table.specs.Table.{blank, members}
-use Rattle.table.specs.Rule.{encodable, fine, rising, rule, keeps}
-use Rattle.table.proofs.Members.{nil, member_is, size-count}
-use Rattle.table.proofs.rule.Rules.{is_true}
+use Rattle.table.specs.Laws as laws
+use Rattle.table.specs.Rule.{encodable, fine, follows, rising, rule, keeps}
 
 -- the parts of a true `&&`
 pub both_true : (a b : Bool) → (a && b) ≡ true → (a ≡ true) × (b ≡ true)
-both_true a b e = let u = and_yes a b (subst T (sym e) tt) in (is_true a u.0, is_true b u.1)
+both_true = laws.both_true
 
 pub record Fine (m : Module) : Type 0 where
   pub address : is_address m.adr ≡ true
@@ -37,27 +28,26 @@ pub record Fine (m : Module) : Type 0 where
   pub version-ok : version.ok m.version ≡ true
   pub parameters-ok : parameters.ok m.parameters ≡ true
 
+pub fine-encodable : (m : Module) → fine m ≡ true → encodable m ≡ true
+unfolding fine
+fine-encodable m e = (both_true _ _ e).1
+
 pub fine-parts : (m : Module) → fine m ≡ true → Fine m
-unfolding fine encodable
+unfolding fine
 fine-parts m e =
-    let a = both_true (is_address m.adr && (leb m.on 1 && leb m.link_fault 1)) (encodable m) e in
-    let b = both_true (is_address m.adr) (leb m.on 1 && leb m.link_fault 1) a.0 in
-    let c = both_true (leb m.on 1) (leb m.link_fault 1) b.1 in
-    let d = both_true (analog.ok m.analog && alarm.ok m.alarm) (limits.ok m.limits && (serial.ok m.serial && (version.ok m.version && parameters.ok m.parameters))) a.1 in
-    let f = both_true (analog.ok m.analog) (alarm.ok m.alarm) d.0 in
-    let g = both_true (limits.ok m.limits) (serial.ok m.serial && (version.ok m.version && parameters.ok m.parameters)) d.1 in
-    let h = both_true (serial.ok m.serial) (version.ok m.version && parameters.ok m.parameters) g.1 in
-    let k = both_true (version.ok m.version) (parameters.ok m.parameters) h.1 in
+    let placed = both_true (is_address m.adr) _ (both_true (is_address m.adr && (leb m.on 1 && leb m.link_fault 1)) _ e).0 in
+    let marks = both_true (leb m.on 1) (leb m.link_fault 1) placed.1 in
+    let whole = fine-encodable m e in
     record {
-      address = b.0;
-      on = leb-true m.on 1 c.0;
-      fault = leb-true m.link_fault 1 c.1;
-      analog-ok = f.0;
-      alarm-ok = f.1;
-      limits-ok = g.0;
-      serial-ok = h.0;
-      version-ok = k.0;
-      parameters-ok = k.1;
+      address = placed.0;
+      on = leb-true m.on 1 marks.0;
+      fault = leb-true m.link_fault 1 marks.1;
+      analog-ok = laws.writable_analog m whole;
+      alarm-ok = laws.writable_alarm m whole;
+      limits-ok = laws.writable_limits m whole;
+      serial-ok = laws.writable_serial m whole;
+      version-ok = laws.writable_version m whole;
+      parameters-ok = laws.writable_parameters m whole;
     }
 
 -- the first record of a rising list, and the others
@@ -65,15 +55,15 @@ pub rising-parts : (group last : ℕ) (x : Module) (xs : List Module) → rising
     → (fine x ≡ true) × (ltb last x.adr ≡ true) × (eqb (x.adr / 16) group ≡ true) × (rising group x.adr xs ≡ true)
 unfolding rising
 rising-parts group last x xs e =
-    let a = both_true ((fine x && ltb last x.adr) && eqb (x.adr / 16) group) (rising group x.adr xs) e in
-    let b = both_true (fine x && ltb last x.adr) (eqb (x.adr / 16) group) a.0 in
-    let c = both_true (fine x) (ltb last x.adr) b.0 in
-    (c.0, c.1, b.1, a.1)
+    let whole = both_true (follows group last x) (rising group x.adr xs) e in
+    let first = both_true (fine x && ltb last x.adr) (eqb (x.adr / 16) group) whole.0 in
+    let below = both_true (fine x) (ltb last x.adr) first.0 in
+    (below.0, below.1, first.1, whole.1)
 
 rising-fine : (group last : ℕ) (ms : List Module) → rising group last ms ≡ true → (i : ℕ) → i < length ms → (d : Module) → fine (get_or ms i d) ≡ true
-rising-fine group last [] e i h d = absurd (not-suc-le-zero h)
+rising-fine group last [] e i h d = absurd (omega arith)
 rising-fine group last (x ∷ xs) e zero h d = (rising-parts group last x xs e).0
-rising-fine group last (x ∷ xs) e (suc i) h d = rising-fine group x.adr xs (rising-parts group last x xs e).3 i (le_of_suc-le-suc h) d
+rising-fine group last (x ∷ xs) e (suc i) h d = rising-fine group x.adr xs (rising-parts group last x xs e).3 i (omega arith) d
 
 -- ---- of a table that keeps the rule
 
@@ -96,11 +86,6 @@ pub keeps-parts : (t : Table) → keeps t ≡ true → (t.count ≤ 12) × (rule
 unfolding keeps
 keeps-parts t e = let a = both_true (leb t.count 12) (rule (members t)) e in (leb-true t.count 12 a.0, a.1)
 
-module _ (t : Table) (twelve : length t.modules ≡ 12) (e : keeps t ≡ true) where
-  pub count-is : t.count ≡ length (members t)
-  count-is = size-count t twelve (keeps-parts t e).0
-
-  pub place-fine : (i : ℕ) → i < t.count → Fine (get_or t.modules i nil)
-  place-fine i h =
-      let l : i < length (members t) = omega (arith, count-is) in
-      subst Fine (sym (member_is t i l)) (record-fine (members t) (keeps-parts t e).1 i l blank)
+pub encodable_at : (t : Table) (i : ℕ) (d : Module) → keeps t ≡ true → i < length (members t) → encodable (get_or (members t) i d) ≡ true
+encodable_at t i d e h =
+    fine-encodable (get_or (members t) i d) (rising-fine ((get_or (members t) 0 blank).adr / 16) 0 (members t) (rule-parts (members t) (keeps-parts t e).1).rises i h d)

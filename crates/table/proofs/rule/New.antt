@@ -1,11 +1,6 @@
 -- A new record keeps the rule where its ADR does: every other value is known, and can be encoded.
-use mathlib.Core.Path.{◌≡◌, refl, subst, sym}
-use mathlib.Core.Bool.{true}
-use mathlib.Core.List.{[], ◌∷◌}
-use Prim.Native.Nat.{ℕ, zero, suc, ◌/◌}
-use native.Mathlib.Omega.{arith}
-use lib.Dec.{T, ltb}
-use borrow.Author.Tests.{lt-ltb, eq-eqb}
+use Rattle.std.proofs.Common.{◌≡◌, refl, subst, sym, true, T, ltb, [], ◌∷◌, ℕ, zero, suc, ◌/◌, arith}
+use Rattle.std.proofs.lemmas.Bool.{lt-ltb, eq-eqb}
 use Rattle.record.specs.Address.{is_address}
 use Rattle.record.specs.Analog.{measured, analog}
 use Rattle.record.specs.Capacities.{capacities}

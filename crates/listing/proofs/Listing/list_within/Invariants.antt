@@ -1,10 +1,19 @@
--- The loop's invariant: what was listed so far, and what is left, are the whole.
-use Rattle.std.proofs.Common.{◌≡◌, ◌-◌, length}
-use Rattle.listing.proofs.Parts.{Sofar}
+-- What is left to list, behind what was put, is the whole.
+use Rattle.std.proofs.Common.{◌≡◌, ◌+◌, ◌-◌, ◌≤◌, length, drop}
+use Rattle.receiver.specs.Pass.{Fits}
+use Rattle.listing.specs.Piece.{left, listing}
+use Rattle.listing.proofs.Parts.{ended}
 use Rattle.listing.proofs.Listing.list_within.Given as goal
 
-abbrev pub invariant-loop-i : goal.invariant-loop-i
-invariant-loop-i l = Sofar l.initial.l l.initial.store l.piece l.initial.out l.l l.store l.out l.i l.end × (length l.store ≡ length l.initial.store) × (length l.out ≡ length l.initial.out)
+abbrev pub invariant-loop-part : goal.invariant-loop-part
+invariant-loop-part l = record {
+  few : l.part.taken ≤ length l.piece;
+  limit : length l.piece ≤ l.part.taken + left l.part.next;
+  within : l.part.end ≤ length l.out;
+  fits : Fits l.part.next.receiver l.store;
+  whole : ended (listing l.part.next l.store (length l.out - l.part.end) (drop l.part.taken l.piece)) l.out l.part.end l.part.taken
+      ≡ ended (listing l.fn.self l.fn.store (length l.fn.out) l.piece) l.fn.out 0 0;
+}
 
-abbrev pub decreases-loop-i : goal.decreases-loop-i
-decreases-loop-i l = length l.piece - l.i
+abbrev pub decreases-loop-part : goal.decreases-loop-part
+decreases-loop-part l = length l.piece - l.part.taken

@@ -1,12 +1,13 @@
--- The loop's invariant: stepping from here on, with i bytes taken before, is stepping over the whole piece.
-use Rattle.std.proofs.Common.{length, drop, ◌-◌, ◌≤◌, ◌≡◌}
-use Rattle.receiver.specs.Run.{count_of, later, stepping}
+-- Stepping over what is left, with the bytes before it taken, is stepping over the whole piece.
+use Rattle.std.proofs.Common.{length, ◌-◌, ◌≤◌, ◌≡◌}
+use Rattle.receiver.specs.Run.{later, stepping}
+use Rattle.receiver.specs.Pass.{Fits}
 use Rattle.receiver.proofs.Receiver.run_within.Given as goal
 
-abbrev pub invariant-loop-i : goal.invariant-loop-i
-invariant-loop-i l =
-    (l.i ≤ length l.piece) × (count_of l.now ≤ 4110) × (length l.store ≡ length l.initial.store)
-    × (stepping l.initial.now l.initial.store l.piece ≡ later l.i (stepping l.now l.store (drop l.i l.piece)))
+abbrev pub invariant-loop-byte : goal.invariant-loop-byte
+invariant-loop-byte l =
+    (length l.rest ≤ length l.piece) × Fits l.now l.store
+    × (stepping l.initial.now l.initial.store l.piece ≡ later (length l.piece - length l.rest) (stepping l.now l.store l.rest))
 
-abbrev pub decreases-loop-i : goal.decreases-loop-i
-decreases-loop-i l = length l.piece - l.i
+abbrev pub decreases-loop-byte : goal.decreases-loop-byte
+decreases-loop-byte l = length l.rest

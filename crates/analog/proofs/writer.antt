@@ -1,4 +1,0 @@
-pub mod Lists
-pub mod Amounts
-pub mod Whole
-pub mod Ones

@@ -1,0 +1,5 @@
+pub mod Ones
+pub mod Alls
+pub mod ByteRows
+pub mod PutAs
+pub mod Turns

@@ -1,4 +1,0 @@
-pub mod Stages
-pub mod Turns
-pub mod Ones
-pub mod Answered
